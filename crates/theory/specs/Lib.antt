@@ -1,0 +1,4 @@
+pub mod Search
+pub mod Automaton
+pub mod Monitor
+pub mod Answer

@@ -1,0 +1,18 @@
+-- Tests of the numbers below a bound: whether some number passes, how many pass, which is the first.
+use mathlib.Core.Bool.{Bool, true, false, cond, _||_}
+use Prim.Native.Nat.{ℕ, zero, suc}
+
+-- some number below n passes the test
+unfoldable pub any : ℕ → (ℕ → Bool) → Bool
+any zero f = false
+any (suc i) f = f i || any i f
+
+-- how many numbers below n pass the test
+unfoldable pub count : ℕ → (ℕ → Bool) → ℕ
+count zero f = 0
+count (suc i) f = cond (f i) (suc (count i f)) (count i f)
+
+-- the first of the c numbers from a on that passes the test, or a + c where none does
+unfoldable pub first : (ℕ → Bool) → ℕ → ℕ → ℕ
+first f a zero = a
+first f a (suc c) = cond (f a) a (first f (suc a) c)

@@ -1,0 +1,1 @@
+// The theory of monitors has definitions and laws, and no code.
