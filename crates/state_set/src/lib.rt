@@ -1,4 +1,5 @@
 // Sets of states, each one 64-bit word.
+use theory::STATE_LIMIT;
 ghost use mathlib.Core.Path.{_≡_};
 ghost use mathlib.Core.Bool.{false, not, _&&_, _||_};
 ghost use Prim.Native.Nat.{ℕ};
@@ -6,9 +7,6 @@ ghost use lib.Dec.{eqb, ltb};
 ghost use Rattle.theory.specs.Search.{count, first};
 ghost use Rattle.theory.specs.Monitor.{stateLimit};
 ghost use Rattle.state_set.specs.Member.{member};
-
-// The greatest number of states of a monitor: a set has a place for each.
-pub const STATE_LIMIT: usize = 64;
 
 pub struct StateSet {
     bits: u64,

@@ -14,15 +14,18 @@ pub record Monitor : Type 0 where
   pub start : ℕ
   pub verdict : ℕ → ℕ
 
--- the greatest number of states: question 2
+-- the greatest number of states (question 2) and of symbols (question 3)
 abbrev pub stateLimit : ℕ
 stateLimit = 64
+
+abbrev pub symbolLimit : ℕ
+symbolLimit = 16
 
 -- what questions 2, 3 and 5 to 8 leave of a monitor; `limit` is the greatest number of states
 pub record WellFormed (limit : ℕ) (m : Monitor) : Type 0 where
   pub states-most : m .automaton .states ≤ limit
   pub symbols-least : 1 ≤ m .automaton .symbols
-  pub symbols-most : m .automaton .symbols ≤ 16
+  pub symbols-most : m .automaton .symbols ≤ symbolLimit
   pub start-in : m .start < m .automaton .states
   pub closed : Closed (m .automaton)
   pub verdict-in : (q : ℕ) → q < m .automaton .states → m .verdict q ≤ 2

@@ -1,0 +1,156 @@
+// The byte format of monitors: judging a body, and reading a successor.
+use theory::STATE_LIMIT;
+use theory::SYMBOL_LIMIT;
+ghost use mathlib.Core.Path.{_≡_};
+ghost use mathlib.Core.List.{[]};
+ghost use Prim.Native.Nat.{_*_, _<_};
+ghost use lib.ListN.{length};
+ghost use Rattle.theory.specs.Search.{first};
+ghost use Rattle.theory.specs.Monitor.{stateLimit};
+ghost use Rattle.theory.specs.Answer.{Answer, asks};
+ghost use Rattle.monitor.specs.Format.{Rows, automatonOf};
+ghost use Rattle.monitor.specs.Questions.{firstNotBelow, leaves, firstLeaving, headQuestions, rowQuestions, judgement, judgeAnswer};
+
+// The number of the question that was answered no, and its place.
+pub struct Refusal {
+    pub number: usize,
+    pub place: usize,
+}
+
+pub enum Judgement {
+    Accepted,
+    Refused(Refusal),
+}
+
+fn refused(number: usize, place: usize) -> Judgement
+    ensures { λ r. ⌜ judgement r ≡ Answer.refused number place ⌝ }
+{
+    Judgement::Refused(Refusal { number, place })
+}
+
+// The index of the first byte that is not below the bound, or the length.
+pub fn first_not_below(bytes: &[u8], bound: u8) -> usize
+    ensures { λ r. ⌜ r ≡ firstNotBelow bound (now (bytes .entry)) ⌝ }
+{
+    let mut i = 0;
+    while i < bytes.len() {
+        if bytes[i] >= bound {
+            return i;
+        }
+        i += 1;
+    }
+    i
+}
+
+// The index of the first next state of q that gives up the verdict of q, or the end of q's row.
+fn first_leaving_row(marks: &[u8], nexts: &[u8], k: usize, q: usize) -> usize
+    requires { ⌜ Rows (length (now marks)) k (now nexts) × (q < length (now marks)) ⌝ }
+    ensures { λ r. ⌜ r ≡ first (leaves (now (marks .entry)) (now (nexts .entry)) k) (q * k) k ⌝ }
+{
+    let end = q * k + k;
+    let mark = marks[q];
+    if mark == 0 {
+        return end;
+    }
+    let mut i = q * k;
+    while i < end {
+        let next = nexts[i] as usize;
+        if marks[next] != mark {
+            return i;
+        }
+        i += 1;
+    }
+    i
+}
+
+// The same for all rows: the index of the first such next state, or how many next states there are.
+fn first_leaving(marks: &[u8], nexts: &[u8], k: usize) -> usize
+    requires { ⌜ Rows (length (now marks)) k (now nexts) ⌝ }
+    ensures { λ r. ⌜ r ≡ firstLeaving (now (marks .entry)) (now (nexts .entry)) k ⌝ }
+{
+    let mut q = 0;
+    while q < marks.len() {
+        let i = first_leaving_row(marks, nexts, k, q);
+        if i < q * k + k {
+            return i;
+        }
+        q += 1;
+    }
+    nexts.len()
+}
+
+// Questions 1 to 5.
+fn judge_head(body: &[u8]) -> Judgement
+    ensures { λ r. ⌜ judgement r ≡ asks (headQuestions stateLimit (now (body .entry))) [] ⌝ }
+{
+    let len = body.len();
+    if len < 3 {
+        return refused(1, len);
+    }
+    let n = body[0] as usize;
+    if n < 1 {
+        return refused(2, 0);
+    }
+    if n > STATE_LIMIT {
+        return refused(2, 0);
+    }
+    let k = body[1] as usize;
+    if k < 1 {
+        return refused(3, 1);
+    }
+    if k > SYMBOL_LIMIT {
+        return refused(3, 1);
+    }
+    if len != 3 + n + n * k {
+        return refused(4, len);
+    }
+    if body[2] >= body[0] {
+        return refused(5, 2);
+    }
+    Judgement::Accepted
+}
+
+// Questions 6 to 8, of a body that passed 1 to 5.
+fn judge_rows(body: &[u8]) -> Judgement
+    requires { ⌜ asks (headQuestions stateLimit (now body)) [] ≡ Answer.answered [] ⌝ }
+    ensures { λ r. ⌜ judgement r ≡ asks (rowQuestions (now (body .entry))) [] ⌝ }
+{
+    let n = body[0] as usize;
+    let k = body[1] as usize;
+    let marks = &body[3..3 + n];
+    let nexts = &body[3 + n..];
+    let mark = first_not_below(marks, 3);
+    if mark < marks.len() {
+        return refused(6, 3 + mark);
+    }
+    let next = first_not_below(nexts, body[0]);
+    if next < nexts.len() {
+        return refused(7, 3 + n + next);
+    }
+    let leaving = first_leaving(marks, nexts, k);
+    if leaving < nexts.len() {
+        return refused(8, 3 + n + leaving);
+    }
+    Judgement::Accepted
+}
+
+// Accepts a body, or refuses it with the first question that it answers no.
+pub fn judge(body: &[u8]) -> Judgement
+    ensures { λ r. ⌜ judgement r ≡ judgeAnswer (now (body .entry)) ⌝ }
+{
+    match judge_head(body) {
+        Judgement::Refused(r) => {
+            return Judgement::Refused(r);
+        }
+        Judgement::Accepted => {}
+    }
+    judge_rows(body)
+}
+
+// The successor of state q under symbol a.
+pub fn successor(nexts: &[u8], n: usize, k: usize, q: usize, a: usize) -> usize
+    requires { ⌜ Rows n k (now nexts) × (q < n) × (a < k) ⌝ }
+    ensures { λ r. ⌜ (r ≡ automatonOf n k (now (nexts .entry)) .next q a) × (r < n) ⌝ }
+{
+    nexts[q * k + a] as usize
+}
