@@ -1,2 +1,5 @@
 pub mod Search
 pub mod Answer
+pub mod Settle
+pub mod Reach
+pub mod Exact

@@ -1,0 +1,107 @@
+-- `leads` says exactly that some trace of any length leads to a state that passes the test.
+use mathlib.Core.Path.{_≡_, refl, sym, ap, _∙_, subst}
+use mathlib.Core.Bool.{Bool, true, false, _||_}
+use mathlib.Core.List.{List, [], _∷_, _++_}
+use mathlib.Core.Logic.{_⊎_, inl, inr, ⊎-elim}
+use Prim.Native.Nat.{ℕ, zero, suc, _+_, _-_, _≤_, _<_}
+use native.Mathlib.Nat.{le-refl, le-of-suc-le-suc, not-suc-le-zero}
+use native.Mathlib.Omega.{arith}
+use lib.ListN.{length}
+use lib.Dec.{eqb}
+use borrow.Author.Tests.{eqb-true, eq-eqb}
+use Rattle.theory.specs.Search.{any}
+use Rattle.theory.specs.Automaton.{Automaton, Closed, Trace, run, Reaches, within, leads, reachedFrom}
+use Rattle.theory.proofs.Search.{clash, or-cases, or-left, or-right, any-at, any-find, any-same}
+use Rattle.theory.proofs.Settle.{settled}
+
+-- ---- runs
+
+pub run-in : {g : Automaton} → Closed g → (q : ℕ) (w : List ℕ) → q < g .states → Trace g w → run g q w < g .states
+unfolding run Trace
+run-in c q [] l t = l
+run-in {g} c q (a ∷ w) l t = run-in c (g .next q a) w (c .next-in q a l (t .0)) (t .1)
+
+pub run-append : (g : Automaton) (q : ℕ) (v w : List ℕ) → run g q (v ++ w) ≡ run g (run g q v) w
+unfolding run
+run-append g q [] w = refl
+run-append g q (a ∷ v) w = run-append g (g .next q a) v w
+
+pub trace-append : (g : Automaton) (v w : List ℕ) → Trace g v → Trace g w → Trace g (v ++ w)
+unfolding Trace
+trace-append g [] w s t = t
+trace-append g (a ∷ v) w s t = (s .0, trace-append g v w (s .1) t)
+
+-- ---- reaching a state that passes the test
+
+pub record Hits (g : Automaton) (f : ℕ → Bool) (q : ℕ) : Type 0 where
+  pub word : List ℕ
+  pub trace : Trace g word
+  pub passes : f (run g q word) ≡ true
+
+pub reaches-hits : {g : Automaton} {q p : ℕ} (f : ℕ → Bool) → f p ≡ true → Reaches g q p → Hits g f q
+reaches-hits f e r = record { word = r .word; trace = r .trace; passes = ap f (r .arrives) ∙ e }
+
+pub hits-here : (g : Automaton) (f : ℕ → Bool) (q : ℕ) → f q ≡ true → Hits g f q
+unfolding Trace run
+hits-here g f q e = record { word = []; trace = tt; passes = e }
+
+pub hits-step : (g : Automaton) (f : ℕ → Bool) (q a : ℕ) → a < g .symbols → Hits g f (g .next q a) → Hits g f q
+unfolding Trace run
+hits-step g f q a l h = record { word = a ∷ h .word; trace = (l, h .trace); passes = h .passes }
+
+module _ (g : Automaton) (f : ℕ → Bool) where
+  -- some symbol leads from q to a state from which r symbols are enough
+  abbrev after : ℕ → ℕ → ℕ → Bool
+  after r q a = within g f r (g .next q a)
+
+  within-sound : (r q : ℕ) → within g f r q ≡ true → Hits g f q
+  unfolding within
+  within-sound zero q e = hits-here g f q e
+  within-sound (suc r) q e =
+      ⊎-elim (hits-here g f q)
+      (λ s. (let b = any-find (g .symbols) (after r q) s in hits-step g f q (b .0) (b .1) (within-sound r (g .next q (b .0)) (b .2))))
+      (or-cases (f q) (any (g .symbols) (after r q)) e)
+
+  within-complete : (r q : ℕ) (w : List ℕ) → length w ≤ r → Trace g w → f (run g q w) ≡ true → within g f r q ≡ true
+  unfolding within Trace run
+  within-complete zero q [] l t e = e
+  within-complete zero q (a ∷ w) l t e = absurd (not-suc-le-zero l)
+  within-complete (suc r) q [] l t e = or-left (f q) (any (g .symbols) (after r q)) e
+  within-complete (suc r) q (a ∷ w) l t e =
+      or-right (f q) (any (g .symbols) (after r q))
+      (any-at (g .symbols) (after r q) a (t .0) (within-complete r (g .next q a) w (le-of-suc-le-suc l) (t .1) e))
+
+  within-more : (r q : ℕ) → within g f r q ≡ true → within g f (suc r) q ≡ true
+  unfolding within
+  within-more zero q e = or-left (f q) (any (g .symbols) (after zero q)) e
+  within-more (suc r) q e =
+      ⊎-elim (or-left (f q) (any (g .symbols) (after (suc r) q)))
+      (λ s. (let b = any-find (g .symbols) (after r q) s in
+      or-right (f q) (any (g .symbols) (after (suc r) q)) (any-at (g .symbols) (after (suc r) q) (b .0) (b .1) (within-more r (g .next q (b .0)) (b .2)))))
+      (or-cases (f q) (any (g .symbols) (after r q)) e)
+
+  within-stays : Closed g → (r : ℕ) → ((p : ℕ) → p < g .states → within g f (suc r) p ≡ within g f r p)
+      → (p : ℕ) → p < g .states → within g f (suc (suc r)) p ≡ within g f (suc r) p
+  unfolding within
+  within-stays c r s p l =
+      ap (λ (b : Bool). f p || b) (any-same (g .symbols) (after (suc r) p) (after r p) (λ a h. s (g .next p a) (c .next-in p a l h)))
+
+  pub leads-sound : (q : ℕ) → leads g f q ≡ true → Hits g f q
+  unfolding leads
+  leads-sound q e = within-sound (g .states) q e
+
+  pub leads-complete : Closed g → (q : ℕ) → q < g .states → Hits g f q → leads g f q ≡ true
+  unfolding leads
+  leads-complete c q l h =
+      sym (settled (g .states) (within g f) (λ r p _. within-more r p) (within-stays c) (length (h .word)) q l)
+      ∙ within-complete (g .states + length (h .word)) q (h .word) (omega arith) (h .trace) (h .passes)
+
+-- ---- reaching a state
+
+pub reached-sound : (g : Automaton) (q p : ℕ) → reachedFrom g q p ≡ true → Reaches g q p
+reached-sound g q p e =
+    let h = leads-sound g (eqb p) q e in
+    record { word = h .word; trace = h .trace; arrives = sym (eqb-true p (run g q (h .word)) (h .passes)) }
+
+pub reached-complete : {g : Automaton} {q p : ℕ} → Closed g → q < g .states → Reaches g q p → reachedFrom g q p ≡ true
+reached-complete {g} {q} {p} c l r = leads-complete g (eqb p) c q l (reaches-hits (eqb p) (eq-eqb p p refl) r)

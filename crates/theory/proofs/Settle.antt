@@ -1,0 +1,52 @@
+-- A test of the numbers below n that grows from round to round, and that has stopped growing once a round adds nothing, has stopped after n rounds.
+use mathlib.Core.Path.{_≡_, refl, sym, ap, _∙_}
+use mathlib.Core.Bool.{Bool, true, false, not, _&&_}
+use mathlib.Core.Logic.{_⊎_, inl, inr, ⊎-elim}
+use Prim.Native.Nat.{ℕ, zero, suc, _+_, _≤_, _<_}
+use native.Mathlib.Nat.{add-zero, add-suc}
+use native.Mathlib.Omega.{arith}
+use borrow.Author.Tests.{not-true}
+use Rattle.theory.specs.Search.{any, count}
+use Rattle.theory.proofs.Search.{clash, not-clash, both-ways, and-left, and-right, and-both, any-at, any-find, count-le, count-more}
+
+module _ (n : ℕ) (grown : ℕ → ℕ → Bool) where
+  -- the round after r adds nothing
+  abbrev pub Still : ℕ → Type 0
+  Still r = (p : ℕ) → p < n → grown (suc r) p ≡ grown r p
+
+  -- the round after r adds p
+  abbrev added : ℕ → ℕ → Bool
+  added r p = grown (suc r) p && not (grown r p)
+
+  module _ (more : (r p : ℕ) → p < n → grown r p ≡ true → grown (suc r) p ≡ true) (stays : (r : ℕ) → Still r → Still (suc r)) where
+    still-or-more : (r : ℕ) → Still r ⊎ (count n (grown r) < count n (grown (suc r)))
+    still-or-more r = go (any n (added r)) refl
+      where
+        go : (b : Bool) → any n (added r) ≡ b → Still r ⊎ (count n (grown r) < count n (grown (suc r)))
+        go true e =
+            let f = any-find n (added r) e in
+            let p = f .0 in
+            inr (count-more n (grown r) (grown (suc r)) (more r) p (f .1) (not-true (grown r p) (and-right (grown (suc r) p) (not (grown r p)) (f .2))) (and-left (grown (suc r) p) (not (grown r p)) (f .2)))
+        go false e = inl (λ p l. both-ways (λ t. old p l t (grown r p) refl) (more r p l))
+          where
+            old : (p : ℕ) → p < n → grown (suc r) p ≡ true → (b : Bool) → grown r p ≡ b → grown r p ≡ true
+            old p l t true h = h
+            old p l t false h = absurd (clash (any-at n (added r) p l (and-both (grown (suc r) p) (not (grown r p)) t (ap not h))) e)
+
+    still-or-many : (r : ℕ) → Still r ⊎ (r < count n (grown (suc r)))
+    still-or-many zero = ⊎-elim (λ s. inl s) (λ l. inr (omega (arith, l))) (still-or-more zero)
+    still-or-many (suc r) =
+        ⊎-elim (λ s. inl (stays r s)) (λ l. ⊎-elim (λ s. inl s) (λ m. inr (omega (arith, l, m))) (still-or-more (suc r))) (still-or-many r)
+
+    still : Still n
+    still = ⊎-elim (λ s. s) (λ l. absurd (omega (arith, l, count-le n (grown (suc n))))) (still-or-many n)
+
+    -- no round after n adds anything
+    pub settled : (j p : ℕ) → p < n → grown (n + j) p ≡ grown n p
+    settled j p l = both j .1 p l
+      where
+        both : (j : ℕ) → Still (n + j) × ((p : ℕ) → p < n → grown (n + j) p ≡ grown n p)
+        both zero = rw (add-zero n) (still, λ p l. refl)
+        both (suc j) =
+            let b = both j in
+            rw (add-suc n j) (stays (n + j) (b .0), λ p l. b .0 p l ∙ b .1 p l)
