@@ -1,5 +1,6 @@
--- Tests of the numbers below a bound: whether some number passes, how many pass, which is the first.
+-- Tests of the numbers below a bound: whether some number passes, how many pass, which is the first; and the values at these numbers.
 use mathlib.Core.Bool.{Bool, true, false, cond, _||_}
+use mathlib.Core.List.{List, [], _∷_, _++_}
 use Prim.Native.Nat.{ℕ, zero, suc}
 
 -- some number below n passes the test
@@ -16,3 +17,8 @@ count (suc i) f = cond (f i) (suc (count i f)) (count i f)
 unfoldable pub first : (ℕ → Bool) → ℕ → ℕ → ℕ
 first f a zero = a
 first f a (suc c) = cond (f a) a (first f (suc a) c)
+
+-- the values at the numbers below n, in order
+unfoldable pub values : ℕ → (ℕ → ℕ) → List ℕ
+values zero f = []
+values (suc i) f = values i f ++ (f i ∷ [])

@@ -1,0 +1,22 @@
+-- The code reads the digit; past the word there is none.
+use mathlib.Core.Path.{sym}
+use borrow.Author.Needs.{needs}
+use native.Mathlib.Omega.{arith}
+use Rattle.state_set.specs.Member.{member}
+use Rattle.state_set.proofs.Bits.{bit-read, bit-high}
+use Rattle.state_set.proofs.StateSet.has.Statement.{statement}
+use Rattle.state_set.proofs.StateSet.has.Tie as tie
+
+shr-result : tie.Need-shr-result
+shr-result c = search needs
+
+returns : tie.Need-returns
+unfolding member
+returns c = bit-read (c .before .before .args .self .bits) (c .before .before .args .q)
+
+returns-2 : tie.Need-returns-2
+unfolding member
+returns-2 c = sym (bit-high 64 (c .before .args .self .bits) (c .before .args .q) (omega arith) (c .if1 .left))
+
+pub has-spec : {M : Type 1} → statement M
+has-spec = tie.close (tie.spec shr-result returns returns-2)
