@@ -11,7 +11,7 @@ use lib.Count.{ones, ones-step, trailingZeros, under}
 use lib.Pow.{pow-mono, shl-exact}
 use borrow.Author.Tests.{lt-ltb, le-ltb}
 use Rattle.theory.specs.Search.{count, first}
-use Rattle.theory.proofs.Search.{lt-or-le}
+use Rattle.theory.proofs.Search.{lt-or-le, count-from, first-from}
 
 -- the last digit of m is set
 abbrev odd : ℕ → Bool
@@ -136,27 +136,6 @@ pub bit-read : (m q : ℕ) → eqb (bitAnd (m / 2 ^ q) 1) 1 ≡ bit m q
 bit-read m q = ap (λ (x : ℕ). eqb x 1) (and-mask (m / 2 ^ q) 1)
 
 -- ---- how many, and which is the lowest
-
--- g is the test f one further on
-count-from : (n : ℕ) (f g : ℕ → Bool) → ((i : ℕ) → f (suc i) ≡ g i) → count (suc n) f ≡ cond (f 0) (suc (count n g)) (count n g)
-unfolding count
-count-from zero f g h = refl
-count-from (suc n) f g h = rw (h n, count-from n f g h) (swap (g n) (f 0) (count n g))
-  where
-    swap : (a b : Bool) (t : ℕ) → cond a (suc (cond b (suc t) t)) (cond b (suc t) t) ≡ cond b (suc (cond a (suc t) t)) (cond a (suc t) t)
-    swap true true t = refl
-    swap true false t = refl
-    swap false true t = refl
-    swap false false t = refl
-
-first-from : (f g : ℕ → Bool) → ((i : ℕ) → f (suc i) ≡ g i) → (a c : ℕ) → first f (suc a) c ≡ suc (first g a c)
-unfolding first
-first-from f g h a zero = refl
-first-from f g h a (suc c) = rw (h a, first-from f g h (suc a) c) (go (g a))
-  where
-    go : (b : Bool) → cond b (suc a) (suc (first g (suc a) c)) ≡ suc (cond b a (first g (suc a) c))
-    go true = refl
-    go false = refl
 
 pub ones-count : (k m : ℕ) → m < 2 ^ k → ones m ≡ count k (bit m)
 unfolding count ones

@@ -155,6 +155,18 @@ count-none n f h = count-short 0 n f (omega arith) (λ i _ l. h i l) ∙ nothing
     nothing : count 0 f ≡ 0
     nothing = unfold count in refl
 
+-- the test f, taken apart at 0: g is f one further on
+pub count-from : (n : ℕ) (f g : ℕ → Bool) → ((i : ℕ) → f (suc i) ≡ g i) → count (suc n) f ≡ cond (f 0) (suc (count n g)) (count n g)
+unfolding count
+count-from zero f g h = refl
+count-from (suc n) f g h = rw (h n, count-from n f g h) (swap (g n) (f 0) (count n g))
+  where
+    swap : (a b : Bool) (t : ℕ) → cond a (suc (cond b (suc t) t)) (cond b (suc t) t) ≡ cond b (suc (cond a (suc t) t)) (cond a (suc t) t)
+    swap true true t = refl
+    swap true false t = refl
+    swap false true t = refl
+    swap false false t = refl
+
 -- ---- first
 
 -- a scan that passed over every number from a up to i, and stopped at the end or at a number that passes, has found the first
@@ -207,3 +219,13 @@ first-here f a (suc c) h = go (f a) refl h (first-here f (suc a) c)
 
 pub first-none : (f : ℕ → Bool) (a c j : ℕ) → first f a c ≡ a + c → a ≤ j → j < a + c → f j ≡ false
 first-none f a c j e l h = first-below f a c j l (omega arith)
+
+-- g is the test f one further on
+pub first-from : (f g : ℕ → Bool) → ((i : ℕ) → f (suc i) ≡ g i) → (a c : ℕ) → first f (suc a) c ≡ suc (first g a c)
+unfolding first
+first-from f g h a zero = refl
+first-from f g h a (suc c) = rw (h a, first-from f g h (suc a) c) (go (g a))
+  where
+    go : (b : Bool) → cond b (suc a) (suc (first g (suc a) c)) ≡ suc (cond b a (first g (suc a) c))
+    go true = refl
+    go false = refl
