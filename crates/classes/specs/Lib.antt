@@ -1,3 +1,2 @@
-pub mod Closure
 pub mod Sets
 pub mod Classify

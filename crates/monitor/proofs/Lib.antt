@@ -1,0 +1,6 @@
+pub mod Scan
+pub mod Rows
+pub mod Leaving
+pub mod Head
+pub mod Body
+pub mod Accepted

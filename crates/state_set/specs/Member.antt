@@ -10,5 +10,5 @@ unfoldable pub member : StateSet → ℕ → Bool
 member s q = eqb (s .bits / 2 ^ q % 2) 1
 
 -- the set holds the states below n that pass the test, and no other
-abbrev pub Exactly : ℕ → (ℕ → Bool) → StateSet → Type 0
-Exactly n f s = (q : ℕ) → member s q ≡ (ltb q n && f q)
+pub record Exactly (n : ℕ) (f : ℕ → Bool) (s : StateSet) : Type 0 where
+  pub at : (q : ℕ) → member s q ≡ (ltb q n && f q)

@@ -1,12 +1,13 @@
 -- The laws of `any`, `count` and `first`.
 use mathlib.Core.Path.{_≡_, refl, sym, ap, _∙_, subst}
-use mathlib.Core.Bool.{Bool, true, false, cond, not, _&&_, _||_, true≢false}
+use mathlib.Core.Bool.{Bool, true, false, cond, not, _&&_, _||_, true≢false, or-comm}
 use mathlib.Core.Logic.{_⊎_, inl, inr, ⊎-elim}
 use Prim.Native.Nat.{ℕ, zero, suc, _+_, _≤_, _<_}
 use native.Mathlib.Nat.{le-refl, le-suc, le-of-suc-le-suc, not-suc-le-zero, eq-or-lt-of-le, le-of-lt, le-antisymm}
+use native.Mathlib.Numerals.{add-one}
 use native.Mathlib.Omega.{arith}
 use lib.Dec.{ltb}
-use borrow.Author.Tests.{ltb-true, ltb-false}
+use borrow.Author.Tests.{ltb-true, ltb-false, lt-ltb}
 use Rattle.theory.specs.Search.{any, count, first}
 
 -- ---- Booleans
@@ -83,6 +84,17 @@ unfolding any
 any-same zero f g h = refl
 any-same (suc n) f g h = rw (h n (le-refl (suc n)), any-same n f g (λ i l. h i (omega (arith, l))))
 
+pub any-more : (n : ℕ) (f : ℕ → Bool) → any (n + 1) f ≡ (any n f || f n)
+unfolding any
+any-more n f = rw (add-one n) (or-comm (f n) (any n f))
+
+-- numbers that fail the test make no difference
+pub any-short : (m n : ℕ) (f : ℕ → Bool) → m ≤ n → ((i : ℕ) → m ≤ i → i < n → f i ≡ false) → any n f ≡ any m f
+any-short m n f l h =
+    both-ways
+    (λ t. (let b = any-find n f t in ⊎-elim (λ s. any-at m f (b .0) s (b .2)) (λ g. absurd (clash (b .2) (h (b .0) g (b .1)))) (lt-or-le (b .0) m)))
+    (λ t. (let b = any-find m f t in any-at n f (b .0) (omega (arith, b .1)) (b .2)))
+
 -- ---- count
 
 pub count-le : (n : ℕ) (f : ℕ → Bool) → count n f ≤ n
@@ -99,11 +111,11 @@ unfolding count
 count-same zero f g h = refl
 count-same (suc n) f g h = rw (h n (le-refl (suc n)), count-same n f g (λ i l. h i (omega (arith, l))))
 
--- what g has and f has not makes g's count greater
-count-at : (n : ℕ) (f g : ℕ → Bool) → ((i : ℕ) → i < n → f i ≡ true → g i ≡ true) → count n f ≤ count n g
+-- a wider test has no smaller count, and a greater one where it passes something new
+pub count-mono : (n : ℕ) (f g : ℕ → Bool) → ((i : ℕ) → i < n → f i ≡ true → g i ≡ true) → count n f ≤ count n g
 unfolding count
-count-at zero f g h = le-refl 0
-count-at (suc n) f g h = go (f n) (g n) (h n (le-refl (suc n))) (count-at n f g (λ i l. h i (omega (arith, l))))
+count-mono zero f g h = le-refl 0
+count-mono (suc n) f g h = go (f n) (g n) (h n (le-refl (suc n))) (count-mono n f g (λ i l. h i (omega (arith, l))))
   where
     go : (a b : Bool) → (a ≡ true → b ≡ true) → count n f ≤ count n g → cond a (suc (count n f)) (count n f) ≤ cond b (suc (count n g)) (count n g)
     go true true i l = omega arith
@@ -116,7 +128,7 @@ unfolding count
 count-more zero f g h x l e t = absurd (not-suc-le-zero l)
 count-more (suc n) f g h x l e t =
     ⊎-elim
-    (λ q. here (f n) (g n) (subst (λ (y : ℕ). f y ≡ false) q e) (subst (λ (y : ℕ). g y ≡ true) q t) (count-at n f g (λ i s. h i (omega (arith, s)))))
+    (λ q. here (f n) (g n) (subst (λ (y : ℕ). f y ≡ false) q e) (subst (λ (y : ℕ). g y ≡ true) q t) (count-mono n f g (λ i s. h i (omega (arith, s)))))
     (λ s. there (f n) (g n) (h n (le-refl (suc n))) (count-more n f g (λ i r. h i (omega (arith, r))) x s e t))
     (eq-or-lt-of-le (le-of-suc-le-suc l))
   where
@@ -154,6 +166,15 @@ count-none n f h = count-short 0 n f (omega arith) (λ i _ l. h i l) ∙ nothing
   where
     nothing : count 0 f ≡ 0
     nothing = unfold count in refl
+
+pub count-any : (n : ℕ) (f : ℕ → Bool) → ltb 0 (count n f) ≡ any n f
+unfolding count any
+count-any zero f = refl
+count-any (suc n) f = go (f n) (count-any n f)
+  where
+    go : (b : Bool) → ltb 0 (count n f) ≡ any n f → ltb 0 (cond b (suc (count n f)) (count n f)) ≡ (b || any n f)
+    go true e = lt-ltb 0 (suc (count n f)) (omega arith)
+    go false e = e
 
 -- the test f, taken apart at 0: g is f one further on
 pub count-from : (n : ℕ) (f g : ℕ → Bool) → ((i : ℕ) → f (suc i) ≡ g i) → count (suc n) f ≡ cond (f 0) (suc (count n g)) (count n g)

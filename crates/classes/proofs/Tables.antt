@@ -1,0 +1,104 @@
+-- Classes, monitorability and the number of states reached, read off sets of states, are those of the table.
+use mathlib.Core.Path.{_≡_, refl, sym, ap, ap₂, subst, _∙_}
+use mathlib.Core.Bool.{Bool, true, false, cond, not, _&&_, and-false, and-assoc}
+use mathlib.Core.List.{List, [], _∷_, _++_}
+use Prim.Native.Nat.{ℕ, zero, suc, _+_, _≤_, _<_}
+use native.Mathlib.Nat.{lt-of-lt-of-le}
+use native.Mathlib.Omega.{arith}
+use lib.Dec.{eqb, ltb}
+use lib.ListN.{length, drop}
+use borrow.Author.Tests.{eq-eqb, lt-ltb, le-ltb}
+use Rattle.theory.specs.Search.{any, count, values}
+use Rattle.theory.specs.Automaton.{Automaton, Closed, leads, reachedFrom}
+use Rattle.theory.specs.Answer.{answered}
+use Rattle.theory.specs.Monitor.{Monitor, WellFormed, marked, classFrom, class, weak, reached, uglyReached, monitorability, statesReached, stateLimit}
+use Rattle.theory.proofs.Search.{any-same, any-short, count-same, count-short, count-any}
+use Rattle.theory.proofs.Reach.{hits-here, leads-complete}
+use Rattle.theory.proofs.Values.{values-same}
+use Rattle.state_set.specs.declared.StateSet.{StateSet}
+use Rattle.state_set.specs.Member.{member, Exactly}
+use Rattle.monitor.specs.Format.{automatonOf, tableOf, Table}
+use Rattle.classes.specs.Sets.{hasMark, classBy, uglyBy, monitorabilityBy}
+use Rattle.classes.specs.Classify.{classList}
+
+-- a set that holds exactly the states that pass, below the bound and past it
+exactly-in : {n : ℕ} {f : ℕ → Bool} {s : StateSet} → Exactly n f s → (q : ℕ) → q < n → member s q ≡ f q
+exactly-in {n} {f} e q l = e .at q ∙ ap (λ (b : Bool). b && f q) (lt-ltb q n l)
+
+exactly-out : {n : ℕ} {f : ℕ → Bool} {s : StateSet} → Exactly n f s → (q : ℕ) → n ≤ q → member s q ≡ false
+exactly-out {n} {f} e q l = e .at q ∙ ap (λ (b : Bool). b && f q) (le-ltb q n l)
+
+-- a bound that is equal to another
+pub exactly-at : {n m : ℕ} {f : ℕ → Bool} {s : StateSet} → n ≡ m → Exactly n f s → Exactly m f s
+exactly-at {f = f} {s = s} e x = subst (λ (i : ℕ). Exactly i f s) e x
+
+-- a state is ugly where neither true nor false can be reached from it, its own verdict included
+ugly-class : {limit : ℕ} {m : Monitor} → WellFormed limit m → (q : ℕ) → q < m .automaton .states
+    → eqb (class m q) 5 ≡ (not (leads (m .automaton) (marked m 1) q) && not (leads (m .automaton) (marked m 2) q))
+unfolding class
+ugly-class {m = m} w q l =
+    go (m .verdict q) refl (w .verdict-in q l) (leads (m .automaton) (marked m 1) q) refl (leads (m .automaton) (marked m 2) q) refl
+  where
+    own : (v : ℕ) → m .verdict q ≡ v → leads (m .automaton) (marked m v) q ≡ true
+    own v e = leads-complete (m .automaton) (marked m v) (w .closed) q l (hits-here (m .automaton) (marked m v) q (eq-eqb (m .verdict q) v e))
+
+    go : (v : ℕ) → m .verdict q ≡ v → v ≤ 2 → (t : Bool) → leads (m .automaton) (marked m 1) q ≡ t → (f : Bool) → leads (m .automaton) (marked m 2) q ≡ f
+        → eqb (classFrom v t f) 5 ≡ (not t && not f)
+    go zero e r true a true b = refl
+    go zero e r true a false b = refl
+    go zero e r false a true b = refl
+    go zero e r false a false b = refl
+    go (suc zero) e r t a f b = rw (sym a ∙ own 1 e)
+    go (suc (suc zero)) e r t a f b = rw (sym b ∙ own 2 e) (sym (and-false (not t)))
+    go (suc (suc (suc v))) e r t a f b = absurd (omega arith)
+
+module _ (k s : ℕ) (vs ts : List ℕ) {n : ℕ} {t f : StateSet} (et : Exactly n (leads (automatonOf n k ts) (hasMark vs 1)) t) (ef : Exactly n (leads (automatonOf n k ts) (hasMark vs 2)) f) where
+  pub class-by-is : (q : ℕ) → q < n → classBy vs t f q ≡ class (tableOf n k s vs ts) q
+  unfolding class
+  class-by-is q l = rw (exactly-in et q l, exactly-in ef q l)
+
+  pub classes-are : values n (classBy vs t f) ≡ values n (class (tableOf n k s vs ts))
+  classes-are = values-same n (classBy vs t f) (class (tableOf n k s vs ts)) class-by-is
+
+  module _ (table : Table n k s vs ts) {r : StateSet} (er : Exactly n (reachedFrom (automatonOf n k ts) s) r) where
+    pub reached-is : count stateLimit (member r) ≡ statesReached (tableOf n k s vs ts)
+    unfolding statesReached
+    reached-is =
+        count-short n stateLimit (member r) (table .rows .states-most) (λ q l _. exactly-out er q l)
+        ∙ count-same n (member r) (reached (tableOf n k s vs ts)) (exactly-in er)
+
+    ugly-is : (q : ℕ) → q < n → uglyBy t f r q ≡ uglyReached (tableOf n k s vs ts) q
+    ugly-is q l = rw (exactly-in er q l, exactly-in et q l, exactly-in ef q l, ugly-class (table .well-formed) q l) (and-assoc (reachedFrom (automatonOf n k ts) s q) _ _)
+
+    pub monitorability-is : monitorabilityBy vs t f r s ≡ monitorability (tableOf n k s vs ts)
+    unfolding monitorability
+    monitorability-is =
+        ap₂ (λ (b : Bool) (c : ℕ). cond b 3 (weak c))
+        (count-any stateLimit (uglyBy t f r)
+        ∙ any-short n stateLimit (uglyBy t f r) (table .rows .states-most) (λ q l _. rw (exactly-out er q l))
+        ∙ any-same n (uglyBy t f r) (uglyReached (tableOf n k s vs ts)) ugly-is)
+        (class-by-is s (table .well-formed .start-in))
+
+-- ---- the monitorability by two differences of sets and a count
+
+module _ (vs : List ℕ) (t f r rest ugly : StateSet) (s : ℕ) (d : (q : ℕ) → member rest q ≡ (member r q && not (member t q))) (e : (q : ℕ) → member ugly q ≡ (member rest q && not (member f q)))
+    {a : ℕ} (c : a ≡ count stateLimit (member ugly)) where
+  ugly-count : a ≡ count stateLimit (uglyBy t f r)
+  ugly-count = c ∙ count-same stateLimit (member ugly) (uglyBy t f r) (λ q _. e q ∙ ap (λ (b : Bool). b && not (member f q)) (d q))
+
+  pub some-ugly : 0 < a → 3 ≡ monitorabilityBy vs t f r s
+  some-ugly l = rw (lt-ltb 0 (count stateLimit (uglyBy t f r)) (omega (arith, l, ugly-count)))
+
+  pub none-ugly : {w b : ℕ} → a ≤ 0 → w ≡ weak b → b ≡ classBy vs t f s → w ≡ monitorabilityBy vs t f r s
+  none-ugly l h g = rw (le-ltb 0 (count stateLimit (uglyBy t f r)) (omega (arith, l, ugly-count))) (h ∙ ap weak g)
+
+-- ---- the whole answer
+
+module _ {k s n : ℕ} {vs ts : List ℕ} (table : Table n k s vs ts) {t f r : StateSet} (et : Exactly n (leads (automatonOf n k ts) (hasMark vs 1)) t)
+    (ef : Exactly n (leads (automatonOf n k ts) (hasMark vs 2)) f) (er : Exactly n (reachedFrom (automatonOf n k ts) s) r) where
+  pub figures-are : {a b : ℕ} → a ≡ monitorabilityBy vs t f r s → b ≡ count stateLimit (member r)
+      → answered (a ∷ b ∷ []) ≡ answered (monitorability (tableOf n k s vs ts) ∷ statesReached (tableOf n k s vs ts) ∷ [])
+  figures-are i j = ap₂ (λ (x y : ℕ). answered (x ∷ y ∷ [])) (i ∙ monitorability-is k s vs ts et ef table er) (j ∙ reached-is k s vs ts et ef table er)
+
+  pub area-is : (area : List ℕ) {l : List ℕ} → l ≡ values (length vs) (classBy vs t f) ++ drop (length vs) area → l ≡ classList (tableOf n k s vs ts) ++ drop n area
+  area-is area e = e ∙ rw (table .marks-length, classes-are k s vs ts et ef)

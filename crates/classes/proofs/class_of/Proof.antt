@@ -1,0 +1,20 @@
+use borrow.Author.Needs.{needs}
+use mathlib.Core.Path.{_∙_}
+use Rattle.classes.proofs.Tables.{class-by-is}
+use Rattle.classes.proofs.class_of.Statement.{statement}
+use Rattle.classes.proofs.class_of.Tie as tie
+
+outlook-of-requires : tie.Need-outlook-of-requires
+outlook-of-requires c κs = search needs
+
+class-by-requires : tie.Need-class-by-requires
+class-by-requires c κs = search needs
+
+returns : tie.Need-returns
+returns c =
+    let a = c .before .before .before .before .args in
+    let o = c .before .outlook-of .ensures in
+    λ s. c .class-by .ensures ∙ class-by-is (a .k) s (a .marks .now) (a .nexts .now) (o .0) (o .1) (a .q) (c .before .before .before .before .pre .2)
+
+pub class-of-spec : {M : Type 1} → statement M
+class-of-spec = tie.close (tie.spec outlook-of-requires class-by-requires returns)

@@ -1,0 +1,81 @@
+-- Marks and next states as parts of a body, and questions 6 to 8: what each no answers.
+use mathlib.Core.Path.{_≡_, ap, _∙_}
+use mathlib.Core.List.{List, [], _∷_}
+use Prim.Native.Nat.{ℕ, _+_, _*_, _-_, _≤_, _<_}
+use native.Mathlib.Nat.{le-refl}
+use native.Mathlib.Omega.{arith}
+use lib.ListN.{length, getD, take, drop, length-take, length-drop}
+use lib.Seq.{take-all}
+use borrow.Author.Tests.{eq-eqb, ne-eqb, leb-false}
+use Rattle.theory.specs.Answer.{refused, answered, asks}
+use Rattle.theory.specs.Monitor.{stateLimit}
+use Rattle.theory.proofs.Search.{first-le, first-none}
+use Rattle.monitor.specs.Format.{statesOf, symbolsOf, drawnMarks, nexts, Rows}
+use Rattle.monitor.specs.Questions.{notBelow, firstNotBelow, leaves, firstLeaving, question8, rowQuestions}
+use Rattle.monitor.proofs.Head.{Head}
+
+-- ---- parts
+
+-- what `&body[3..3 + n]` lends
+pub marks-part : (b : List ℕ) → take (3 + statesOf b - 3) (drop 3 b) ≡ drawnMarks b
+marks-part b = (let e : 3 + statesOf b - 3 ≡ statesOf b = omega arith in ap (λ (n : ℕ). take n (drop 3 b)) e)
+
+-- what `&body[3 + n..]` lends
+pub nexts-part : (b : List ℕ) → take (length b - (3 + statesOf b)) (drop (3 + statesOf b) b) ≡ nexts b
+nexts-part b = take-all (length b - (3 + statesOf b)) (nexts b) (simp length-drop (le-refl (length b - (3 + statesOf b))))
+
+module _ {limit : ℕ} {b : List ℕ} (h : Head limit b) where
+  pub marks-length : length (drawnMarks b) ≡ statesOf b
+  marks-length = simp (length-take, length-drop) (omega (arith, h .exact))
+
+  pub marks-part-length : length (take (3 + statesOf b - 3) (drop 3 b)) ≡ statesOf b
+  marks-part-length = ap length (marks-part b) ∙ marks-length
+
+  pub nexts-length : length (nexts b) ≡ statesOf b * symbolsOf b
+  nexts-length = simp length-drop (omega (arith, h .exact))
+
+  pub nexts-part-length : length (take (length b - (3 + statesOf b)) (drop (3 + statesOf b) b)) ≡ statesOf b * symbolsOf b
+  nexts-part-length = ap length (nexts-part b) ∙ nexts-length
+
+-- ---- questions
+
+pub all-below : (bound : ℕ) (l : List ℕ) → firstNotBelow bound l ≡ length l → (i : ℕ) → i < length l → getD l i 0 < bound
+all-below bound l e i h = leb-false bound (getD l i 0) (first-none (notBelow bound l) 0 (length l) i (omega arith) (omega arith) (omega arith))
+
+-- what question 7 leaves of the next states
+pub rows-of : {b : List ℕ} → Head stateLimit b → firstNotBelow (statesOf b) (nexts b) ≡ length (nexts b) → Rows (statesOf b) (symbolsOf b) (nexts b)
+rows-of {b} h e = record {
+  states-most = h .states-most;
+  symbols-most = h .symbols-most;
+  rows-length = nexts-length h;
+  inside = all-below (statesOf b) (nexts b) e;
+}
+
+-- vs and ts are the marks and the next states as lent
+module _ (b : List ℕ) {vs ts : List ℕ} (p : vs ≡ drawnMarks b) (s : ts ≡ nexts b) where
+  pub wrong-mark : {m : ℕ} → m ≡ firstNotBelow 3 vs → m < length vs → asks (rowQuestions b) [] ≡ refused 6 (3 + m)
+  wrong-mark {m} e l = rw (← p, ← e, ne-eqb m (length vs) (λ q. omega arith))
+
+  module _ {m : ℕ} (e : m ≡ firstNotBelow 3 vs) (g : length vs ≤ m) where
+    right-marks : firstNotBelow 3 (drawnMarks b) ≡ length (drawnMarks b)
+    right-marks = rw (← p) (omega (arith, first-le (notBelow 3 vs) 0 (length vs)))
+
+    pub wrong-next : {x : ℕ} → x ≡ firstNotBelow (statesOf b) ts → x < length ts → asks (rowQuestions b) [] ≡ refused 7 (3 + statesOf b + x)
+    wrong-next {x} f l = rw (eq-eqb (firstNotBelow 3 (drawnMarks b)) (length (drawnMarks b)) right-marks, ← s, ← f, ne-eqb x (length ts) (λ q. omega arith))
+
+    module _ {x : ℕ} (f : x ≡ firstNotBelow (statesOf b) ts) (i : length ts ≤ x) where
+      right-nexts : firstNotBelow (statesOf b) (nexts b) ≡ length (nexts b)
+      right-nexts = rw (← s) (omega (arith, first-le (notBelow (statesOf b) ts) 0 (length ts)))
+
+      -- questions 6 and 7 answered yes
+      inside : asks (rowQuestions b) [] ≡ asks (question8 b ∷ []) []
+      inside = rw (eq-eqb (firstNotBelow 3 (drawnMarks b)) (length (drawnMarks b)) right-marks, eq-eqb (firstNotBelow (statesOf b) (nexts b)) (length (nexts b)) right-nexts)
+
+      pub wrong-verdict : {y : ℕ} → y ≡ firstLeaving vs ts (symbolsOf b) → y < length ts → asks (rowQuestions b) [] ≡ refused 8 (3 + statesOf b + y)
+      wrong-verdict {y} d l = inside ∙ rw (← p, ← s, ← d, ne-eqb y (length ts) (λ q. omega arith))
+
+      pub rows-pass : {y : ℕ} → y ≡ firstLeaving vs ts (symbolsOf b) → length ts ≤ y → asks (rowQuestions b) [] ≡ answered []
+      rows-pass {y} d l = inside ∙ rw (← p, ← s, ← d, eq-eqb y (length ts) (omega (arith, first-le (leaves vs ts (symbolsOf b)) 0 (length ts))))
+
+      pub rows-lent : Head stateLimit b → Rows (length vs) (symbolsOf b) ts
+      rows-lent h = rw (p, s, marks-length h) (rows-of h right-nexts)

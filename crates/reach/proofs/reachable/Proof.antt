@@ -1,0 +1,81 @@
+-- `reachable` meets its contract: what was seen can be reached, and what was expanded has its successors seen.
+use Prim.Native.Nat.{ℕ, _-_}
+use native.Mathlib.Nat.{lt-of-lt-of-le}
+use native.Mathlib.Omega.{arith}
+use borrow.Author.Needs.{needs}
+use Rattle.theory.specs.Search.{count}
+use Rattle.theory.specs.Monitor.{stateLimit}
+use Rattle.state_set.specs.Member.{member}
+use Rattle.monitor.specs.Format.{automatonOf}
+use Rattle.monitor.proofs.Rows.{next-of-rows}
+use Rattle.reach.proofs.Closure.{Expanding}
+use Rattle.reach.proofs.Rounds.{expand-first, expand-turn, expand-less, expand-last}
+use Rattle.reach.proofs.reachable.Statement.{statement}
+use Rattle.reach.proofs.reachable.Tie as tie
+
+abbrev Inv-loop : tie.InvT-loop
+Inv-loop nexts n k start seen₀ expanded₀ seen expanded = Expanding (automatonOf n k nexts) start (member seen) (member expanded)
+
+abbrev μ-loop : tie.MeasureT-loop
+μ-loop nexts n k start seen₀ expanded₀ seen expanded = stateLimit - count stateLimit (member expanded)
+
+empty-requires : tie.Need-empty-requires Inv-loop μ-loop
+empty-requires c κs = search needs
+
+with-requires : tie.Need-with-requires Inv-loop μ-loop
+with-requires c κs = search needs
+
+empty-requires-2 : tie.Need-empty-requires-2 Inv-loop μ-loop
+empty-requires-2 c κs = search needs
+
+loop-holds : tie.Need-loop-holds Inv-loop μ-loop
+loop-holds c =
+    let a = c .before .before .before .before .args in
+    let pre = c .before .before .before .before .pre in
+    expand-first (automatonOf (a .n) (a .k) (a .nexts .now)) stateLimit (a .start) (member (c .before .before .empty .result)) (member (c .before .with .result)) (member (c .empty2 .result))
+    (lt-of-lt-of-le (pre .1) (pre .0 .states-most)) (c .before .before .empty .ensures) (c .before .with .ensures) (c .empty2 .ensures)
+
+minus-requires : tie.Need-minus-requires Inv-loop μ-loop
+minus-requires c κs = search needs
+
+lowest-requires : tie.Need-lowest-requires Inv-loop μ-loop
+lowest-requires c κs = search needs
+
+returns : tie.Need-returns Inv-loop μ-loop
+returns c =
+    let pre = c .before .before .before .before .before .before .before .before .pre in
+    let left = c .before .before .minus in
+    record {
+      at = expand-last (c .before .before .before .loop .inv) stateLimit (pre .0 .states-most) (member (left .result)) (left .ensures) (c .before .lowest .result) (c .before .lowest .ensures)
+          (next-of-rows (pre .0)) (pre .1) (c .if1 .taken);
+    }
+
+with-requires-2 : tie.Need-with-requires-2 Inv-loop μ-loop
+with-requires-2 c κs = search needs
+
+successors-requires : tie.Need-successors-requires Inv-loop μ-loop
+successors-requires c κs = search needs
+
+union-requires : tie.Need-union-requires Inv-loop μ-loop
+union-requires c κs = search needs
+
+loop-less : tie.Need-loop-less Inv-loop μ-loop
+loop-less c =
+    let left = c .before .before .before .before .before .minus in
+    let low = c .before .before .before .before .lowest in
+    let done = c .before .before .with2 in
+    expand-less (c .before .before .before .before .before .before .loop .inv) stateLimit (c .before .before .before .before .before .before .before .before .before .before .before .pre .0 .states-most) (member (left .result)) (left .ensures) (low .result) (low .ensures)
+    (c .before .before .before .if1 .left) (member (done .result)) (done .ensures)
+
+loop-again : tie.Need-loop-again Inv-loop μ-loop
+loop-again c =
+    let left = c .before .before .before .before .before .minus in
+    let low = c .before .before .before .before .lowest in
+    let done = c .before .before .with2 in
+    expand-turn (c .before .before .before .before .before .before .loop .inv) stateLimit (c .before .before .before .before .before .before .before .before .before .before .before .pre .0 .states-most) (member (left .result)) (left .ensures) (low .result) (low .ensures)
+    (c .before .before .before .if1 .left) (member (done .result)) (done .ensures) (member (c .before .successors .result)) (member (c .union .result)) (c .before .successors .ensures) (c .union .ensures)
+
+pub reachable-spec : {M : Type 1} → statement M
+reachable-spec =
+    tie.close
+    (tie.spec Inv-loop μ-loop empty-requires with-requires empty-requires-2 loop-holds minus-requires lowest-requires returns with-requires-2 successors-requires union-requires loop-less loop-again)

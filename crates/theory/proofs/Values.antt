@@ -1,0 +1,35 @@
+-- Filling a list with values, from the front.
+use mathlib.Core.Path.{_≡_, refl, sym, ap, ap₂, _∙_}
+use mathlib.Core.List.{List, [], _∷_, _++_, append-assoc}
+use Prim.Native.Nat.{ℕ, zero, suc, _+_, _≤_, _<_}
+use native.Mathlib.Nat.{le-refl}
+use native.Mathlib.Numerals.{add-one}
+use native.Mathlib.Omega.{arith}
+use lib.ListN.{length, drop, set, length-append, length-drop}
+use lib.Seq.{drop-cons, set-at}
+use Rattle.theory.specs.Search.{values}
+
+pub length-values : (n : ℕ) (f : ℕ → ℕ) → length (values n f) ≡ n
+unfolding values
+length-values zero f = refl
+length-values (suc n) f = length-append (values n f) (f n ∷ []) ∙ omega (arith, length-values n f)
+
+pub values-same : (n : ℕ) (f g : ℕ → ℕ) → ((i : ℕ) → i < n → f i ≡ g i) → values n f ≡ values n g
+unfolding values
+values-same zero f g h = refl
+values-same (suc n) f g h = rw (h n (le-refl (suc n)), values-same n f g (λ i l. h i (omega (arith, l))))
+
+-- the values at the numbers below i stand in front of what is left of the area
+abbrev pub filled : (ℕ → ℕ) → List ℕ → ℕ → List ℕ
+filled f area i = values i f ++ drop i area
+
+pub length-filled : (f : ℕ → ℕ) (area : List ℕ) (i : ℕ) → i ≤ length area → length (filled f area i) ≡ length area
+length-filled f area i l = length-append (values i f) (drop i area) ∙ omega (arith, length-values i f, length-drop i area)
+
+pub filled-turn : (f : ℕ → ℕ) (area : List ℕ) (i : ℕ) → i < length area → set (filled f area i) i (f i) ≡ filled f area (i + 1)
+unfolding values
+filled-turn f area i l =
+    ap (λ (xs : List ℕ). set (values i f ++ xs) i (f i)) (drop-cons area i 0 l)
+    ∙ set-at (values i f) _ (drop (suc i) area) (f i) i (length-values i f)
+    ∙ sym (append-assoc (values i f) (f i ∷ []) (drop (suc i) area))
+    ∙ rw (add-one i)
