@@ -2,7 +2,6 @@
 use monitor::Judgement;
 use monitor::Refusal;
 use state_set::StateSet;
-
 ghost use mathlib.Core.Path.{_≡_};
 ghost use mathlib.Core.List.{[], _∷_, _++_};
 ghost use Prim.Native.Nat.{ℕ, _≤_, _<_};
@@ -17,7 +16,10 @@ ghost use Rattle.classes.specs.Sets.{hasMark, classBy, monitorabilityBy}
 ghost use Rattle.classes.specs.Classify.{classList, classifyAnswer, classification};
 
 pub enum Classification {
-    Classified { monitorability: usize, reached: usize },
+    Classified {
+        monitorability: usize,
+        reached: usize,
+    },
     Refused(Refusal),
 }
 
@@ -135,7 +137,14 @@ fn monitorability_by(marks: &[u8], outlook: Outlook, reached: StateSet, start: u
 }
 
 // The classes of an accepted table.
-fn classify_table(marks: &[u8], nexts: &[u8], n: usize, k: usize, start: usize, area: &mut [u8]) -> Classification
+fn classify_table(
+    marks: &[u8],
+    nexts: &[u8],
+    n: usize,
+    k: usize,
+    start: usize,
+    area: &mut [u8],
+) -> Classification
     requires { ⌜ Table n k start (now marks) (now nexts) × (n ≤ length (now area)) ⌝ }
     ensures figures { λ r. ⌜ classification r ≡ Answer.answered (monitorability (tableOf n k start (now (marks .entry)) (now (nexts .entry))) ∷ statesReached (tableOf n k start (now (marks .entry)) (now (nexts .entry))) ∷ []) ⌝ }
     ensures area { λ _. ⌜ now (area .exit) ≡ classList (tableOf n k start (now (marks .entry)) (now (nexts .entry))) ++ drop n (now (area .entry)) ⌝ }
@@ -160,14 +169,16 @@ pub fn classify(body: &[u8], area: &mut [u8]) -> Classification
         }
         Judgement::Accepted => {}
     }
-    let n = body[0] as usize;
-    let k = body[1] as usize;
-    let start = body[2] as usize;
+    let n = monitor::byte_at(body, 0);
     if area.len() < n {
         return Classification::Refused(Refusal {
             number: 13,
             place: 0,
         });
     }
-    classify_table(&body[3..3 + n], &body[3 + n..], n, k, start, area)
+    let marks = monitor::drawn_marks(body);
+    let nexts = monitor::next_states(body);
+    let k = monitor::byte_at(body, 1);
+    let start = monitor::byte_at(body, 2);
+    classify_table(marks, nexts, n, k, start, area)
 }

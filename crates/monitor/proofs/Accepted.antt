@@ -1,30 +1,25 @@
 -- What holds of an accepted body, and of the parts that callers lend of it.
-use mathlib.Core.Path.{_≡_, refl}
+use mathlib.Core.Path.{_≡_, sym, ap, _∙_}
 use mathlib.Core.List.{List, [], _∷_, _++_}
-use Prim.Native.Nat.{ℕ, _+_, _*_, _-_}
+use Prim.Native.Nat.{ℕ, _+_, _*_, _≤_}
 use native.Mathlib.Nat.{le-of-suc-le-suc}
 use native.Mathlib.Omega.{arith}
 use lib.Arith.{digits-lt}
-use lib.ListN.{length, take, drop}
+use lib.ListN.{length}
 use borrow.Author.Tests.{eqb-true}
-use Rattle.theory.specs.Answer.{Question, answered, asks}
+use Rattle.theory.specs.Answer.{Question, refused, answered, asks}
 use Rattle.theory.specs.Monitor.{WellFormed, stateLimit}
 use Rattle.theory.proofs.Search.{first-none}
-use Rattle.theory.proofs.Answer.{asks-yes}
-use Rattle.monitor.specs.Format.{statesOf, symbolsOf, startOf, drawnMarks, marks, nexts, monitorOf, Table}
-use Rattle.monitor.specs.Questions.{firstNotBelow, leaves, firstLeaving, question6, question7, question8, headQuestions, rowQuestions, judgeAnswer}
+use Rattle.theory.proofs.Answer.{asks-yes, asks-both, asks-refused, asks-passed}
+use Rattle.monitor.specs.Format.{statesOf, symbolsOf, startOf, drawnMarks, marks, nexts, tableOf, monitorOf, Table}
+use Rattle.monitor.specs.Questions.{firstNotBelow, leaves, firstLeaving, question6, question7, question8, headQuestions, rowQuestions, tableQuestions, judgeAnswer, judgement}
+use Rattle.monitor.specs.declared.Refusal.{Refusal}
+use Rattle.monitor.specs.declared.Judgement.{Judgement}
+use Rattle.monitor.specs.declared.Judgement.the-variants.{Accepted, Refused}
 use Rattle.monitor.proofs.Leaving.{verdict-stays}
 pub use Rattle.monitor.proofs.Rows.{rows-most, place-in, next-inside, next-of-rows}
 pub use Rattle.monitor.proofs.Head.{Head, passed-head}
-pub use Rattle.monitor.proofs.Body.{marks-part, nexts-part, marks-length, nexts-length, marks-part-length, nexts-part-length, all-below, rows-of}
-
--- a list of questions without a no has none in its first part and none in its second
-asks-both : (qs more : List Question) (given : List ℕ) → asks (qs ++ more) given ≡ answered given → (asks qs given ≡ answered given) × (asks more given ≡ answered given)
-asks-both [] more given e = (refl, e)
-asks-both (q ∷ qs) more given e =
-    let y = asks-yes q (qs ++ more) given e in
-    let r = asks-both qs more given (y .1) in
-    (rw (y .0) (r .0), r .1)
+pub use Rattle.monitor.proofs.Body.{marks-length, nexts-length, all-below, rows-of}
 
 -- what questions 6, 7 and 8 leave, whatever the limit
 pub well-formed-of : {limit : ℕ} {b : List ℕ} → Head limit b → firstNotBelow 3 (drawnMarks b) ≡ length (drawnMarks b) → firstNotBelow (statesOf b) (nexts b) ≡ length (nexts b)
@@ -57,7 +52,28 @@ accepted-table b e =
     let eight = eqb-true (firstLeaving (drawnMarks b) (nexts b) (symbolsOf b)) (length (nexts b)) (q₈ .0) in
     record { rows = rows-of h seven; marks-length = marks-length h; well-formed = well-formed-of h six seven eight }
 
--- the same of the parts as lent
-pub table-lent : (b : List ℕ) → judgeAnswer b ≡ answered []
-    → Table (statesOf b) (symbolsOf b) (startOf b) (take (3 + statesOf b - 3) (drop 3 b)) (take (length b - (3 + statesOf b)) (drop (3 + statesOf b) b))
-table-lent b e = rw (marks-part b, nexts-part b) (accepted-table b e)
+-- the same of numbers and parts that are equal to those of the body
+module _ (b : List ℕ) {n k s : ℕ} {vs ts : List ℕ} (en : n ≡ statesOf b) (ek : k ≡ symbolsOf b) (es : s ≡ startOf b) (ev : vs ≡ marks b) (et : ts ≡ nexts b) where
+  pub table-lent : judgeAnswer b ≡ answered [] → Table n k s vs ts
+  table-lent e = rw (en, ek, es, ev, et) (accepted-table b e)
+
+  pub monitor-lent : tableOf n k s vs ts ≡ monitorOf b
+  monitor-lent = rw (en, ek, es, ev, et)
+
+-- ---- what a caller of `judge` answers: its refusal, or the further questions that the caller asks
+
+module _ (b : List ℕ) {r : Judgement} (e : judgement r ≡ judgeAnswer b) where
+  pub judged-refused : (more : List Question) (values : List ℕ) {x : Refusal} → r ≡ Refused x → asks (tableQuestions stateLimit b ++ more) values ≡ refused (x .number) (x .place)
+  unfolding judgeAnswer
+  judged-refused more values h = asks-refused (tableQuestions stateLimit b) more values [] (sym e ∙ ap judgement h)
+
+  pub judged-accepted : r ≡ Accepted → judgeAnswer b ≡ answered []
+  judged-accepted h = sym e ∙ ap judgement h
+
+pub accepted-asks : (b : List ℕ) (more : List Question) (values : List ℕ) → judgeAnswer b ≡ answered [] → asks (tableQuestions stateLimit b ++ more) values ≡ asks more values
+unfolding judgeAnswer
+accepted-asks b more values e = asks-passed (tableQuestions stateLimit b) more values [] e
+
+-- an accepted body has room for its marks
+pub marks-fit : (b : List ℕ) → judgeAnswer b ≡ answered [] → 3 + statesOf b ≤ length b
+marks-fit b e = (let h = accepted-head b e in omega (arith, h .exact))

@@ -17,25 +17,19 @@ use Rattle.monitor.proofs.Head.{Head}
 -- ---- parts
 
 -- what `&body[3..3 + n]` lends
-pub marks-part : (b : List ℕ) → take (3 + statesOf b - 3) (drop 3 b) ≡ drawnMarks b
-marks-part b = (let e : 3 + statesOf b - 3 ≡ statesOf b = omega arith in ap (λ (n : ℕ). take n (drop 3 b)) e)
+pub marks-lent : (b : List ℕ) {n : ℕ} → n ≡ statesOf b → take (3 + n - 3) (drop 3 b) ≡ drawnMarks b
+marks-lent b {n} e = (let l : 3 + n - 3 ≡ statesOf b = omega (arith, e) in ap (λ (i : ℕ). take i (drop 3 b)) l)
 
 -- what `&body[3 + n..]` lends
-pub nexts-part : (b : List ℕ) → take (length b - (3 + statesOf b)) (drop (3 + statesOf b) b) ≡ nexts b
-nexts-part b = take-all (length b - (3 + statesOf b)) (nexts b) (simp length-drop (le-refl (length b - (3 + statesOf b))))
+pub nexts-lent : (b : List ℕ) {n : ℕ} → n ≡ statesOf b → take (length b - (3 + n)) (drop (3 + n) b) ≡ nexts b
+nexts-lent b {n} e = take-all (length b - (3 + n)) (drop (3 + n) b) (simp length-drop (le-refl (length b - (3 + n)))) ∙ ap (λ (i : ℕ). drop (3 + i) b) e
 
 module _ {limit : ℕ} {b : List ℕ} (h : Head limit b) where
   pub marks-length : length (drawnMarks b) ≡ statesOf b
   marks-length = simp (length-take, length-drop) (omega (arith, h .exact))
 
-  pub marks-part-length : length (take (3 + statesOf b - 3) (drop 3 b)) ≡ statesOf b
-  marks-part-length = ap length (marks-part b) ∙ marks-length
-
   pub nexts-length : length (nexts b) ≡ statesOf b * symbolsOf b
   nexts-length = simp length-drop (omega (arith, h .exact))
-
-  pub nexts-part-length : length (take (length b - (3 + statesOf b)) (drop (3 + statesOf b) b)) ≡ statesOf b * symbolsOf b
-  nexts-part-length = ap length (nexts-part b) ∙ nexts-length
 
 -- ---- questions
 

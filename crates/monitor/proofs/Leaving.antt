@@ -10,7 +10,7 @@ use lib.Dec.{eqb}
 use borrow.Author.Tests.{eq-eqb, ne-eqb, eqb-true, not-false}
 use Rattle.theory.specs.Search.{first}
 use Rattle.monitor.specs.Questions.{leaves}
-use Rattle.monitor.proofs.Scan.{scan-ends}
+use Rattle.theory.proofs.Scan.{scan-ends}
 use Rattle.monitor.proofs.Rows.{row-of}
 
 module _ (vs ts : List ℕ) (q k : ℕ) {i : ℕ} (l : q * k ≤ i) (h : i < q * k + k) where

@@ -3,12 +3,12 @@ use theory::STATE_LIMIT;
 use theory::SYMBOL_LIMIT;
 ghost use mathlib.Core.Path.{_≡_};
 ghost use mathlib.Core.List.{[]};
-ghost use Prim.Native.Nat.{_*_, _<_};
-ghost use lib.ListN.{length};
+ghost use Prim.Native.Nat.{_+_, _*_, _≤_, _<_};
+ghost use lib.ListN.{length, getD};
 ghost use Rattle.theory.specs.Search.{first};
 ghost use Rattle.theory.specs.Monitor.{stateLimit};
 ghost use Rattle.theory.specs.Answer.{Answer, asks};
-ghost use Rattle.monitor.specs.Format.{Rows, automatonOf};
+ghost use Rattle.monitor.specs.Format.{statesOf, drawnMarks, nexts, Rows, automatonOf};
 ghost use Rattle.monitor.specs.Questions.{firstNotBelow, leaves, firstLeaving, headQuestions, rowQuestions, judgement, judgeAnswer};
 
 // The number of the question that was answered no, and its place.
@@ -79,6 +79,34 @@ fn first_leaving(marks: &[u8], nexts: &[u8], k: usize) -> usize
     nexts.len()
 }
 
+// The byte at i, or 0 past the end.
+pub fn byte_at(body: &[u8], i: usize) -> usize
+    ensures { λ r. ⌜ r ≡ getD (now (body .entry)) i 0 ⌝ }
+{
+    if i < body.len() {
+        return body[i] as usize;
+    }
+    0
+}
+
+// The marks of a body that has room for them, as drawn.
+pub fn drawn_marks(body: &[u8]) -> &[u8]
+    requires { ⌜ 3 + statesOf (now body) ≤ length (now body) ⌝ }
+    ensures { λ r. ⌜ now r ≡ drawnMarks (now (body .entry)) ⌝ }
+{
+    let n = byte_at(body, 0);
+    &body[3..3 + n]
+}
+
+// The next states of a body: all that stands behind the marks.
+pub fn next_states(body: &[u8]) -> &[u8]
+    requires { ⌜ 3 + statesOf (now body) ≤ length (now body) ⌝ }
+    ensures { λ r. ⌜ now r ≡ nexts (now (body .entry)) ⌝ }
+{
+    let n = byte_at(body, 0);
+    &body[3 + n..]
+}
+
 // Questions 1 to 5.
 fn judge_head(body: &[u8]) -> Judgement
     ensures { λ r. ⌜ judgement r ≡ asks (headQuestions stateLimit (now (body .entry))) [] ⌝ }
@@ -117,8 +145,8 @@ fn judge_rows(body: &[u8]) -> Judgement
 {
     let n = body[0] as usize;
     let k = body[1] as usize;
-    let marks = &body[3..3 + n];
-    let nexts = &body[3 + n..];
+    let marks = drawn_marks(body);
+    let nexts = next_states(body);
     let mark = first_not_below(marks, 3);
     if mark < marks.len() {
         return refused(6, 3 + mark);

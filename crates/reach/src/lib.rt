@@ -1,6 +1,5 @@
 // Which states can be reached from a state, and from which states a set can be reached.
 use state_set::StateSet;
-
 ghost use mathlib.Core.Path.{_≡_};
 ghost use mathlib.Core.Bool.{Bool};
 ghost use Prim.Native.Nat.{ℕ, _<_};

@@ -1,7 +1,6 @@
 // What a monitor reads: after one step from a state, and after a trace from its start.
 use monitor::Judgement;
 use monitor::Refusal;
-
 ghost use mathlib.Core.Path.{_≡_};
 ghost use mathlib.Core.Bool.{_||_};
 ghost use Prim.Native.Nat.{ℕ, _<_};
@@ -97,8 +96,8 @@ pub fn step(body: &[u8], domain: usize, state: usize, symbol: usize) -> Stepped
             place: 0,
         });
     }
-    let n = body[0] as usize;
-    let k = body[1] as usize;
+    let n = monitor::byte_at(body, 0);
+    let k = monitor::byte_at(body, 1);
     if state >= n {
         return Stepped::Refused(Refusal {
             number: 11,
@@ -111,7 +110,9 @@ pub fn step(body: &[u8], domain: usize, state: usize, symbol: usize) -> Stepped
             place: 0,
         });
     }
-    step_table(&body[3..3 + n], &body[3 + n..], n, k, domain, state, symbol)
+    let marks = monitor::drawn_marks(body);
+    let nexts = monitor::next_states(body);
+    step_table(marks, nexts, n, k, domain, state, symbol)
 }
 
 // A trace of an accepted table.
@@ -154,8 +155,10 @@ pub fn trace(body: &[u8], domain: usize, symbols: &[u8]) -> Traced
             place: wrong,
         });
     }
-    let n = body[0] as usize;
-    let k = body[1] as usize;
-    let start = body[2] as usize;
-    trace_table(&body[3..3 + n], &body[3 + n..], n, k, start, domain, symbols)
+    let marks = monitor::drawn_marks(body);
+    let nexts = monitor::next_states(body);
+    let n = monitor::byte_at(body, 0);
+    let k = monitor::byte_at(body, 1);
+    let start = monitor::byte_at(body, 2);
+    trace_table(marks, nexts, n, k, start, domain, symbols)
 }

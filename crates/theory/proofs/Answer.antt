@@ -1,10 +1,11 @@
--- Asking two lists of questions one after the other.
+-- Asking two lists of questions one after the other, and what an answer does to the area lent.
 use mathlib.Core.Path.{_≡_, refl}
 use mathlib.Core.Bool.{Bool, true, false, cond}
 use mathlib.Core.List.{List, [], _∷_, _++_}
 use Prim.Native.Nat.{ℕ}
+use lib.ListN.{length, drop}
 use native.Mathlib.Omega.{arith}
-use Rattle.theory.specs.Answer.{Question, Answer, refused, answered, asks}
+use Rattle.theory.specs.Answer.{Question, Answer, refused, answered, asks, written}
 
 never : {number place : ℕ} {values : List ℕ} → refused number place ≡ answered values → ⊥
 never e = let z : _≡_ {A = ℕ} 0 1 = cc in omega arith
@@ -38,3 +39,19 @@ asks-yes q qs given e = go (q .yes) refl e
     go : (b : Bool) → q .yes ≡ b → cond b (asks qs given) (refused (q .number) (q .place)) ≡ answered given → (q .yes ≡ true) × (asks qs given ≡ answered given)
     go true p h = (p, h)
     go false p h = absurd (never h)
+
+-- a list of questions without a no has none in its first part and none in its second
+pub asks-both : (qs more : List Question) (given : List ℕ) → asks (qs ++ more) given ≡ answered given → (asks qs given ≡ answered given) × (asks more given ≡ answered given)
+asks-both [] more given e = (refl, e)
+asks-both (q ∷ qs) more given e =
+    let y = asks-yes q (qs ++ more) given e in
+    let r = asks-both qs more given (y .1) in
+    (rw (y .0) (r .0), r .1)
+
+-- ---- the area lent
+
+pub untouched : {a : Answer} {number place : ℕ} (bytes area : List ℕ) → a ≡ refused number place → area ≡ written a bytes area
+untouched bytes area e = rw e
+
+pub written-over : {a : Answer} {values : List ℕ} (bytes area : List ℕ) → a ≡ answered values → bytes ++ drop (length bytes) area ≡ written a bytes area
+written-over bytes area e = rw e

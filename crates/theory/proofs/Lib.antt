@@ -1,4 +1,5 @@
 pub mod Search
+pub mod Scan
 pub mod Values
 pub mod Answer
 pub mod Settle

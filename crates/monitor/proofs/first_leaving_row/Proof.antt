@@ -2,7 +2,7 @@
 use Prim.Native.Nat.{_*_, _-_}
 use native.Mathlib.Omega.{arith}
 use Rattle.monitor.specs.Questions.{leaves}
-use Rattle.monitor.proofs.Scan.{Passed, scan-begins, scan-goes-on, scan-finds, scan-ends}
+use Rattle.theory.proofs.Scan.{Passed, scan-begins, scan-goes-on, scan-finds, scan-ends}
 use Rattle.monitor.proofs.Rows.{rows-most, row-end}
 use Rattle.monitor.proofs.Leaving.{unmarked-row, same-stays, other-leaves}
 use Rattle.monitor.proofs.first_leaving_row.Statement.{statement}

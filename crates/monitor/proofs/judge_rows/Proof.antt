@@ -1,11 +1,12 @@
 -- `judge_rows` meets its contract: each return has its law in Body.
-use mathlib.Core.Path.{sym, _∙_}
+use mathlib.Core.Path.{sym, ap, _∙_}
 use native.Mathlib.Nat.{mul-le-mul}
 use native.Mathlib.Omega.{arith}
+use lib.ListN.{length}
 use borrow.Author.Needs.{needs}
 use Rattle.theory.specs.Monitor.{stateLimit}
 use Rattle.monitor.proofs.Head.{passed-head}
-use Rattle.monitor.proofs.Body.{marks-part, nexts-part, marks-part-length, nexts-part-length, wrong-mark, wrong-next, wrong-verdict, rows-pass, rows-lent}
+use Rattle.monitor.proofs.Body.{marks-length, nexts-length, wrong-mark, wrong-next, wrong-verdict, rows-pass, rows-lent}
 use Rattle.monitor.proofs.judge_rows.Statement.{statement}
 use Rattle.monitor.proofs.judge_rows.Tie as tie
 
@@ -27,44 +28,17 @@ shared-slice-read-k c =
 cast-k : tie.Need-cast-k
 cast-k c = omega (arith, c .shared-slice-known3 .given 1)
 
-add-marks : tie.Need-add-marks
-add-marks c =
-    let s = c .before .before .before in
-    let h = passed-head stateLimit (s .args .body .now) (s .pre) in
-    omega (arith, h .states-most)
-
-sub-marks : tie.Need-sub-marks
-sub-marks c = omega arith
-
-part-marks-start : tie.Need-part-marks-start
-part-marks-start c = search needs
-
-part-marks-end : tie.Need-part-marks-end
-part-marks-end c =
+drawn-marks-requires : tie.Need-drawn-marks-requires
+drawn-marks-requires c κs =
     let s = c .before .before .before in
     let h = passed-head stateLimit (s .args .body .now) (s .pre) in
     omega (arith, h .exact)
 
-add-nexts : tie.Need-add-nexts
-add-nexts c =
-    let s = c .before .before .before .before in
-    let h = passed-head stateLimit (s .args .body .now) (s .pre) in
-    omega (arith, h .states-most)
-
-sub-nexts : tie.Need-sub-nexts
-sub-nexts c =
+next-states-requires : tie.Need-next-states-requires
+next-states-requires c κs =
     let s = c .before .before .before .before in
     let h = passed-head stateLimit (s .args .body .now) (s .pre) in
     omega (arith, h .exact)
-
-part-nexts-start : tie.Need-part-nexts-start
-part-nexts-start c =
-    let s = c .before .before .before .before in
-    let h = passed-head stateLimit (s .args .body .now) (s .pre) in
-    omega (arith, h .exact)
-
-part-nexts-end : tie.Need-part-nexts-end
-part-nexts-end c = search needs
 
 first-not-below-requires : tie.Need-first-not-below-requires
 first-not-below-requires c κs = search needs
@@ -73,7 +47,7 @@ add-refused : tie.Need-add-refused
 add-refused c =
     let s = c .before .before .before .before .before .before .before in
     let h = passed-head stateLimit (s .args .body .now) (s .pre) in
-    omega (arith, c .if1 .taken, marks-part-length h, h .states-most)
+    omega (arith, c .if1 .taken, marks-length h, ap length (c .before .before .before .drawn-marks .ensures), h .states-most)
 
 refused-requires : tie.Need-refused-requires
 refused-requires c κs = search needs
@@ -81,7 +55,7 @@ refused-requires c κs = search needs
 returns : tie.Need-returns
 returns c =
     let b = c .before .before .before .before .before .before .before .before .args .body .now in
-    c .refused .ensures ∙ sym (wrong-mark b (marks-part b) (nexts-part b) (c .before .before .first-not-below .ensures) (c .before .if1 .taken))
+    c .refused .ensures ∙ sym (wrong-mark b (c .before .before .before .before .drawn-marks .ensures) (c .before .before .before .next-states .ensures) (c .before .before .first-not-below .ensures) (c .before .if1 .taken))
 
 shared-slice-read-first-not-below : tie.Need-shared-slice-read-first-not-below
 shared-slice-read-first-not-below c =
@@ -102,7 +76,7 @@ add-refused-3 : tie.Need-add-refused-3
 add-refused-3 c =
     let s = c .before .before .before .before .before .before .before .before .before .before in
     let h = passed-head stateLimit (s .args .body .now) (s .pre) in
-    omega (arith, c .if2 .taken, nexts-part-length h, h .states-most, mul-le-mul (h .states-most) (h .symbols-most))
+    omega (arith, c .if2 .taken, nexts-length h, ap length (c .before .before .before .before .before .next-states .ensures), h .states-most, mul-le-mul (h .states-most) (h .symbols-most))
 
 refused-requires-2 : tie.Need-refused-requires-2
 refused-requires-2 c κs = search needs
@@ -110,13 +84,13 @@ refused-requires-2 c κs = search needs
 returns-2 : tie.Need-returns-2
 returns-2 c =
     let b = c .before .before .before .before .before .before .before .before .before .before .before .args .body .now in
-    c .refused2 .ensures ∙ sym (wrong-next b (marks-part b) (nexts-part b) (c .before .before .before .before .before .first-not-below .ensures) (c .before .before .before .before .if1 .left) (c .before .before .first-not-below2 .ensures) (c .before .if2 .taken))
+    c .refused2 .ensures ∙ sym (wrong-next b (c .before .before .before .before .before .before .before .drawn-marks .ensures) (c .before .before .before .before .before .before .next-states .ensures) (c .before .before .before .before .before .first-not-below .ensures) (c .before .before .before .before .if1 .left) (c .before .before .first-not-below2 .ensures) (c .before .if2 .taken))
 
 first-leaving-requires : tie.Need-first-leaving-requires
 first-leaving-requires c κs =
     let s = c .before .before .before .before .before .before .before .before .before .before in
     let b = s .args .body .now in
-    rows-lent b (marks-part b) (nexts-part b) (c .before .before .before .before .first-not-below .ensures) (c .before .before .before .if1 .left) (c .before .first-not-below2 .ensures) (c .if2 .left) (passed-head stateLimit b (s .pre))
+    rows-lent b (c .before .before .before .before .before .before .drawn-marks .ensures) (c .before .before .before .before .before .next-states .ensures) (c .before .before .before .before .first-not-below .ensures) (c .before .before .before .if1 .left) (c .before .first-not-below2 .ensures) (c .if2 .left) (passed-head stateLimit b (s .pre))
 
 add-refused-4 : tie.Need-add-refused-4
 add-refused-4 c =
@@ -128,7 +102,7 @@ add-refused-5 : tie.Need-add-refused-5
 add-refused-5 c =
     let s = c .before .before .before .before .before .before .before .before .before .before .before .before in
     let h = passed-head stateLimit (s .args .body .now) (s .pre) in
-    omega (arith, c .if3 .taken, nexts-part-length h, h .states-most, mul-le-mul (h .states-most) (h .symbols-most))
+    omega (arith, c .if3 .taken, nexts-length h, ap length (c .before .before .before .before .before .before .before .next-states .ensures), h .states-most, mul-le-mul (h .states-most) (h .symbols-most))
 
 refused-requires-3 : tie.Need-refused-requires-3
 refused-requires-3 c κs = search needs
@@ -136,12 +110,12 @@ refused-requires-3 c κs = search needs
 returns-3 : tie.Need-returns-3
 returns-3 c =
     let b = c .before .before .before .before .before .before .before .before .before .before .before .before .before .args .body .now in
-    c .refused3 .ensures ∙ sym (wrong-verdict b (marks-part b) (nexts-part b) (c .before .before .before .before .before .before .before .first-not-below .ensures) (c .before .before .before .before .before .before .if1 .left) (c .before .before .before .before .first-not-below2 .ensures) (c .before .before .before .if2 .left) (c .before .before .first-leaving .ensures) (c .before .if3 .taken))
+    c .refused3 .ensures ∙ sym (wrong-verdict b (c .before .before .before .before .before .before .before .before .before .drawn-marks .ensures) (c .before .before .before .before .before .before .before .before .next-states .ensures) (c .before .before .before .before .before .before .before .first-not-below .ensures) (c .before .before .before .before .before .before .if1 .left) (c .before .before .before .before .first-not-below2 .ensures) (c .before .before .before .if2 .left) (c .before .before .first-leaving .ensures) (c .before .if3 .taken))
 
 returns-4 : tie.Need-returns-4
 returns-4 c =
     let b = c .before .before .before .before .before .before .before .before .before .before .before .before .args .body .now in
-    sym (rows-pass b (marks-part b) (nexts-part b) (c .before .before .before .before .before .before .first-not-below .ensures) (c .before .before .before .before .before .if1 .left) (c .before .before .before .first-not-below2 .ensures) (c .before .before .if2 .left) (c .before .first-leaving .ensures) (c .if3 .left))
+    sym (rows-pass b (c .before .before .before .before .before .before .before .before .drawn-marks .ensures) (c .before .before .before .before .before .before .before .next-states .ensures) (c .before .before .before .before .before .before .first-not-below .ensures) (c .before .before .before .before .before .if1 .left) (c .before .before .before .first-not-below2 .ensures) (c .before .before .if2 .left) (c .before .first-leaving .ensures) (c .if3 .left))
 
 pub judge-rows-spec : {M : Type 1} → statement M
 judge-rows-spec =
@@ -151,14 +125,8 @@ judge-rows-spec =
     cast-n
     shared-slice-read-k
     cast-k
-    add-marks
-    sub-marks
-    part-marks-start
-    part-marks-end
-    add-nexts
-    sub-nexts
-    part-nexts-start
-    part-nexts-end
+    drawn-marks-requires
+    next-states-requires
     first-not-below-requires
     add-refused
     refused-requires

@@ -1,0 +1,26 @@
+-- `next_states` meets its contract.
+use borrow.Author.Needs.{needs}
+use Rattle.monitor.proofs.Body.{nexts-lent}
+use Rattle.monitor.proofs.next_states.Statement.{statement}
+use Rattle.monitor.proofs.next_states.Tie as tie
+
+byte-at-requires : tie.Need-byte-at-requires
+byte-at-requires c κs = search needs
+
+add-result : tie.Need-add-result
+add-result c = search needs
+
+sub-result : tie.Need-sub-result
+sub-result c = search needs
+
+part-result-start : tie.Need-part-result-start
+part-result-start c = search needs
+
+part-result-end : tie.Need-part-result-end
+part-result-end c = search needs
+
+returns : tie.Need-returns
+returns c = nexts-lent (c .before .before .before .args .body .now) (c .before .byte-at .ensures)
+
+pub next-states-spec : {M : Type 1} → statement M
+next-states-spec = tie.close (tie.spec byte-at-requires add-result sub-result part-result-start part-result-end returns)

@@ -1,0 +1,65 @@
+use borrow.Author.Needs.{needs}
+use mathlib.Core.Path.{_≡_, refl}
+use Prim.Native.Nat.{_≤_, _<_, _-_}
+use native.Mathlib.Omega.{arith}
+use lib.ListN.{length, drop}
+use Rattle.theory.specs.Automaton.{run}
+use Rattle.monitor.specs.Format.{automatonOf}
+use Rattle.monitor.proofs.Body.{all-below}
+use Rattle.readings.proofs.Traces.{run-turn, run-end}
+use Rattle.readings.proofs.state_after.Statement.{statement}
+use Rattle.readings.proofs.state_after.Tie as tie
+
+abbrev Inv-loop : tie.InvT-loop
+Inv-loop nexts n k start symbols q₀ i₀ q i = (i ≤ length symbols) × (q < n) × (run (automatonOf n k nexts) start symbols ≡ run (automatonOf n k nexts) q (drop i symbols))
+
+abbrev μ-loop : tie.MeasureT-loop
+μ-loop nexts n k start symbols q₀ i₀ q i = length symbols - i
+
+loop-holds : tie.Need-loop-holds Inv-loop μ-loop
+loop-holds c = (search needs, c .before .before .pre .1, refl)
+
+shared-slice-read-successor : tie.Need-shared-slice-read-successor Inv-loop μ-loop
+shared-slice-read-successor c = search needs
+
+cast-successor : tie.Need-cast-successor Inv-loop μ-loop
+cast-successor c = omega (arith, c .shared-slice-known3 .given (c .before .before .loop .i))
+
+successor-requires : tie.Need-successor-requires Inv-loop μ-loop
+successor-requires c κs =
+    let start = c .before .before .before .before .before in
+    (start .pre .0, c .before .before .loop .inv .1, all-below (start .args .k) (start .args .symbols .now) (start .pre .2) (c .before .before .loop .i) (c .before .loop-test .taken))
+
+add-i : tie.Need-add-i Inv-loop μ-loop
+add-i c = search needs
+
+loop-less : tie.Need-loop-less Inv-loop μ-loop
+loop-less c = search needs
+
+loop-again : tie.Need-loop-again Inv-loop μ-loop
+loop-again c =
+    let a = c .before .before .before .before .before .before .args in
+    let at = c .before .before .before .loop in
+    let s = c .successor .ensures in
+    (search needs, s .1, run-turn (automatonOf (a .n) (a .k) (a .nexts .now)) (a .symbols .now) (at .inv .2) (c .before .before .loop-test .taken) (s .0))
+
+returns : tie.Need-returns Inv-loop μ-loop
+returns c =
+    let a = c .before .before .before .before .args in
+    let at = c .before .loop in
+    (run-end (automatonOf (a .n) (a .k) (a .nexts .now)) (a .symbols .now) (at .inv .2) (c .loop-test .left), at .inv .1)
+
+pub state-after-spec : {M : Type 1} → statement M
+state-after-spec =
+    tie.close
+    (tie.spec
+    Inv-loop
+    μ-loop
+    loop-holds
+    shared-slice-read-successor
+    cast-successor
+    successor-requires
+    add-i
+    loop-less
+    loop-again
+    returns)
