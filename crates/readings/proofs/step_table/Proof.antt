@@ -1,18 +1,24 @@
 use borrow.Author.Needs.{needs}
+use mathlib.Core.Path.{ap₂}
+use mathlib.Core.List.{[], _∷_}
+use Prim.Native.Nat.{ℕ}
+use Rattle.theory.specs.Answer.{answered}
+use Rattle.monitor.specs.Format.{tableOf}
+use Rattle.readings.proofs.Traces.{reads-at}
 use Rattle.readings.proofs.step_table.Statement.{statement}
 use Rattle.readings.proofs.step_table.Tie as tie
 
--- src/lib.rt:77:9
 successor-requires : tie.Need-successor-requires
 successor-requires c κs = search needs
 
--- src/lib.rt:80:18
 read-requires : tie.Need-read-requires
 read-requires c κs = search needs
 
--- src/lib.rt:65:1
 returns : tie.Need-returns
-returns c = search needs
+returns c =
+    let a = c .before .before .before .before .args in
+    let to = c .before .successor .ensures .0 in
+    λ s. ap₂ (λ (x y : ℕ). answered (x ∷ y ∷ [])) to (reads-at (tableOf (a .n) (a .k) s (a .marks .now) (a .nexts .now)) (a .domain) to (c .read .ensures s))
 
 pub step-table-spec : {M : Type 1} → statement M
 step-table-spec = tie.close (tie.spec successor-requires read-requires returns)
