@@ -1,0 +1,16 @@
+# The two commands of the README.
+
+# Builds the program over one table and runs it on table E of the specification.
+sample:
+	@rt check inspect > /dev/null
+	@target/bin/inspect < crates/inspect/stdin
+
+# The layout of all files; the gate, from nothing; then the tests on the programs that the gate built. The gate's closing line comes last.
+test:
+	@rt fmt --check
+	@set -e; log=$$(mktemp); trap 'rm -f "$$log"' EXIT; \
+	if rt ci > "$$log" 2>&1; then cat "$$log"; else cat "$$log"; exit 1; fi; \
+	python3 tests/compare.py; \
+	tail -n 1 "$$log"
+
+.PHONY: sample test

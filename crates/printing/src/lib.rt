@@ -1,0 +1,100 @@
+// The words and lines that programs print. No contract can say what is written: programs compare their output with a stored one.
+use classes::Classification;
+use monitor::Judgement;
+use monitor::Refusal;
+use readings::Stepped;
+use readings::Traced;
+
+pub fn text(words: &[u8]) {
+    io::write_all(1, words);
+}
+
+pub fn number(n: usize) {
+    io::print_decimal(1, n as u64);
+}
+
+// A refusal, as `refused`, its number and its place.
+pub fn refusal(r: Refusal) {
+    text(b"refused ");
+    number(r.number);
+    text(b" ");
+    number(r.place);
+}
+
+pub fn class_word(class: u8) {
+    match class {
+        0 => text(b"good"),
+        1 => text(b"bad"),
+        2 => text(b"positive"),
+        3 => text(b"negative"),
+        4 => text(b"neutral"),
+        _ => text(b"ugly"),
+    }
+}
+
+pub fn monitorability_word(monitorability: usize) {
+    match monitorability {
+        0 => text(b"pos"),
+        1 => text(b"neg"),
+        2 => text(b"both"),
+        _ => text(b"none"),
+    }
+}
+
+fn byte(b: u8) {
+    text(b" ");
+    number(b as usize);
+}
+
+// The bytes as numbers, each after a space.
+pub fn bytes(list: &[u8]) {
+    let mut i = 0;
+    while i < list.len() {
+        byte(list[i]);
+        i += 1;
+    }
+}
+
+// The answer of each call.
+pub fn judgement(answer: Judgement) {
+    match answer {
+        Judgement::Accepted => text(b"accepted"),
+        Judgement::Refused(r) => refusal(r),
+    }
+}
+
+pub fn classification(answer: Classification) {
+    match answer {
+        Classification::Refused(r) => refusal(r),
+        Classification::Classified {
+            monitorability,
+            reached,
+        } => {
+            monitorability_word(monitorability);
+            text(b" ");
+            number(reached);
+        }
+    }
+}
+
+pub fn stepped(answer: Stepped) {
+    match answer {
+        Stepped::Refused(r) => refusal(r),
+        Stepped::To { state, reading } => {
+            text(b"to ");
+            number(state);
+            text(b" reads ");
+            number(reading);
+        }
+    }
+}
+
+pub fn traced(answer: Traced) {
+    match answer {
+        Traced::Refused(r) => refusal(r),
+        Traced::Reads(reading) => {
+            text(b"reads ");
+            number(reading);
+        }
+    }
+}

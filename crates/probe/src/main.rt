@@ -1,0 +1,73 @@
+// Answers questions from standard input, a line each, for a test outside that has answers of its own to compare.
+// A question is a frame: the length of what follows in two bytes, least byte first; the call; three numbers, a byte each; and the call's bytes.
+ghost use Prim.Native.Nat.{_+_, _≤_, _<_};
+ghost use lib.ListN.{length};
+
+// Call 1: the first number is the length of the area, which is full of 255 before the call.
+fn classify(room: usize, body: &[u8]) {
+    let mut area = [255u8; 256];
+    if room <= 256 {
+        let lent = &mut area[0..room];
+        printing::classification(classes::classify(body, lent));
+        printing::bytes(lent);
+    }
+}
+
+// Call 3: the numbers are the reading and the length of the trace, which stands before the body.
+fn trace(domain: usize, length: usize, bytes: &[u8]) {
+    if length <= bytes.len() {
+        printing::traced(readings::trace(&bytes[length..], domain, &bytes[0..length]));
+    }
+}
+
+fn answer(frame: &[u8]) {
+    if frame.len() < 4 {
+        return;
+    }
+    let call = frame[0];
+    let a = monitor::byte_at(frame, 1);
+    let b = monitor::byte_at(frame, 2);
+    let c = monitor::byte_at(frame, 3);
+    let bytes = &frame[4..];
+    match call {
+        0 => printing::judgement(monitor::judge(bytes)),
+        1 => classify(a, bytes),
+        2 => printing::stepped(readings::step(bytes, a, b, c)),
+        _ => trace(a, b, bytes),
+    }
+    printing::text(b"\n");
+}
+
+fn wide(byte: u8) -> usize
+    ensures { λ r. ⌜ r < 256 ⌝ }
+{
+    byte as usize
+}
+
+// Where the frame at a place ends, or the end of the input if that comes first.
+fn frame_end(input: &[u8], at: usize) -> usize
+    requires { ⌜ at + 2 ≤ length (now input) ⌝ }
+    ensures { λ r. ⌜ (at + 2 ≤ r) × (r ≤ length (now (input .entry))) ⌝ }
+{
+    let size = wide(input[at]) + 256 * wide(input[at + 1]);
+    let left = input.len() - (at + 2);
+    if size <= left {
+        return at + 2 + size;
+    }
+    input.len()
+}
+
+fn answers(input: &[u8]) {
+    let mut at = 0;
+    while at + 2 <= input.len() {
+        let end = frame_end(input, at);
+        answer(&input[at + 2..end]);
+        at = end;
+    }
+}
+
+fn main() {
+    let mut input = [0u8; 65536];
+    let length = io::read_full(0, &mut input);
+    answers(&input[..length]);
+}
