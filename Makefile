@@ -1,4 +1,5 @@
 # The two commands of the README.
+SHELL := /bin/bash
 
 # Builds the program over one table and runs it on table E of the specification.
 sample:
@@ -8,8 +9,8 @@ sample:
 # The layout of all files; the gate, from nothing; then the tests on the programs that the gate built. The gate's closing line comes last.
 test:
 	@rt fmt --check
-	@set -e; log=$$(mktemp); trap 'rm -f "$$log"' EXIT; \
-	if rt ci > "$$log" 2>&1; then cat "$$log"; else cat "$$log"; exit 1; fi; \
+	@set -euo pipefail; log=$$(mktemp); trap 'rm -f "$$log"' EXIT; \
+	rt ci 2>&1 | tee "$$log"; \
 	python3 tests/compare.py; \
 	tail -n 1 "$$log"
 

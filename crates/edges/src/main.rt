@@ -37,8 +37,14 @@ fn sizes() {
     judge(b"0 0 0: ", b"\x00\x00\x00");
     judge(b"k = 0: ", b"\x01\x00\x00\x00");
     judge(b"A: ", b"\x02\x02\x00\x00\x01\x00\x01\x01\x01");
-    judge(b"A without its last byte: ", b"\x02\x02\x00\x00\x01\x00\x01\x01");
-    judge(b"A and a byte more: ", b"\x02\x02\x00\x00\x01\x00\x01\x01\x01\x00");
+    judge(
+        b"A without its last byte: ",
+        b"\x02\x02\x00\x00\x01\x00\x01\x01",
+    );
+    judge(
+        b"A and a byte more: ",
+        b"\x02\x02\x00\x00\x01\x00\x01\x01\x01\x00",
+    );
     judge(b"start = n: ", b"\x02\x02\x02\x00\x01\x00\x01\x01\x01");
 }
 
@@ -67,40 +73,81 @@ fn limits() {
 
 // Questions 6 to 8 and their places.
 fn rows() {
-    judge(b"A with a mark 3: ", b"\x02\x02\x00\x00\x03\x00\x01\x01\x01");
+    judge(
+        b"A with a mark 3: ",
+        b"\x02\x02\x00\x00\x03\x00\x01\x01\x01",
+    );
     judge(b"7 before 8: ", b"\x02\x02\x00\x00\x01\x00\x01\x00\x07");
     judge(b"true gives up: ", b"\x02\x02\x00\x00\x01\x00\x01\x00\x01");
-    judge(b"false before true: ", b"\x03\x01\x00\x02\x01\x00\x02\x02\x00");
-    judge(b"an unreachable true gives up: ", b"\x02\x01\x00\x00\x01\x00\x00");
+    judge(
+        b"false before true: ",
+        b"\x03\x01\x00\x02\x01\x00\x02\x02\x00",
+    );
+    judge(
+        b"an unreachable true gives up: ",
+        b"\x02\x01\x00\x00\x01\x00\x00",
+    );
     judge(b"false turns true: ", b"\x02\x01\x00\x02\x01\x01\x01");
 }
 
 fn areas() {
     let mut three = [255u8; 3];
-    classify(b"A, area of 3: ", b"\x02\x02\x00\x00\x01\x00\x01\x01\x01", &mut three);
+    classify(
+        b"A, area of 3: ",
+        b"\x02\x02\x00\x00\x01\x00\x01\x01\x01",
+        &mut three,
+    );
     let mut two = [255u8; 2];
-    classify(b"A, area of 2: ", b"\x02\x02\x00\x00\x01\x00\x01\x01\x01", &mut two);
+    classify(
+        b"A, area of 2: ",
+        b"\x02\x02\x00\x00\x01\x00\x01\x01\x01",
+        &mut two,
+    );
     let mut one = [255u8; 1];
-    classify(b"A, area of 1: ", b"\x02\x02\x00\x00\x01\x00\x01\x01\x01", &mut one);
+    classify(
+        b"A, area of 1: ",
+        b"\x02\x02\x00\x00\x01\x00\x01\x01\x01",
+        &mut one,
+    );
     let mut wrong = [255u8; 3];
-    classify(b"a refused body: ", b"\x02\x02\x00\x00\x03\x00\x01\x01\x01", &mut wrong);
+    classify(
+        b"a refused body: ",
+        b"\x02\x02\x00\x00\x03\x00\x01\x01\x01",
+        &mut wrong,
+    );
 }
 
 fn tables() {
     let mut b = [255u8; 2];
     classify(b"B: ", b"\x02\x02\x00\x00\x02\x01\x00\x01\x01", &mut b);
     let mut c = [255u8; 3];
-    classify(b"C: ", b"\x03\x04\x00\x00\x01\x02\x02\x00\x01\x01\x01\x01\x01\x01\x02\x02\x02\x02", &mut c);
+    classify(
+        b"C: ",
+        b"\x03\x04\x00\x00\x01\x02\x02\x00\x01\x01\x01\x01\x01\x01\x02\x02\x02\x02",
+        &mut c,
+    );
     let mut d = [255u8; 1];
     classify(b"D: ", b"\x01\x02\x00\x00\x00\x00", &mut d);
     let mut g = [255u8; 5];
-    classify(b"G: ", b"\x05\x02\x00\x00\x00\x01\x00\x02\x03\x01\x01\x02\x02\x02\x04\x03\x04\x04", &mut g);
+    classify(
+        b"G: ",
+        b"\x05\x02\x00\x00\x00\x01\x00\x02\x03\x01\x01\x02\x02\x02\x04\x03\x04\x04",
+        &mut g,
+    );
     let mut h = [255u8; 2];
     classify(b"H: ", b"\x02\x01\x00\x00\x01\x01\x01", &mut h);
     let mut further = [255u8; 3];
-    classify(b"ugly further on: ", b"\x03\x02\x00\x00\x01\x00\x01\x02\x01\x01\x02\x02", &mut further);
+    classify(
+        b"ugly further on: ",
+        b"\x03\x02\x00\x00\x01\x00\x01\x02\x01\x01\x02\x02",
+        &mut further,
+    );
     let mut outside = [255u8; 2];
-    classify(b"ugly out of reach: ", b"\x02\x01\x00\x01\x00\x00\x01", &mut outside);
+    classify(
+        b"ugly out of reach: ",
+        b"\x02\x01\x00\x01\x00\x00\x01",
+        &mut outside,
+    );
 }
 
 fn steps() {
@@ -113,7 +160,13 @@ fn steps() {
     step(b"message 257: ", a, 3, 0, 257);
     step(b"A, message 1: ", a, 3, 0, 1);
     step(b"A, message 0 by class: ", a, 6, 0, 0);
-    step(b"an unreachable state by class: ", b"\x02\x01\x00\x01\x00\x00\x01", 6, 1, 0);
+    step(
+        b"an unreachable state by class: ",
+        b"\x02\x01\x00\x01\x00\x00\x01",
+        6,
+        1,
+        0,
+    );
     step(b"a refused body: ", b"\x02\x02", 5, 9, 9);
 }
 
@@ -135,7 +188,12 @@ fn traces() {
     trace(b"E on 1 0 1: ", e, 3, b"\x01\x00\x01");
     trace(b"E on 1 2 9: ", e, 3, b"\x01\x02\x09");
     trace(b"reading 5, message 9: ", e, 5, b"\x09");
-    trace(b"a start marked true: ", b"\x02\x01\x00\x01\x00\x00\x01", 3, b"");
+    trace(
+        b"a start marked true: ",
+        b"\x02\x01\x00\x01\x00\x00\x01",
+        3,
+        b"",
+    );
     trace(b"a refused body: ", b"", 3, b"");
     trace(b"E on 65700 messages: ", e, 3, &long(0));
     trace(b"and the last is 2: ", e, 3, &long(2));
