@@ -45,41 +45,41 @@ module _ (b : List ℕ) (d : ℕ) where
   -- `known` is the answer to question 10
   module _ (e : judgeAnswer b ≡ answered []) {known : Bool} (k : known ≡ (eqb d 3 || eqb d 6)) where
     module _ (q a : ℕ) where
-      stepped : stepAnswer b d q a ≡ asks (stepQuestions b d q a) (stepFigures (monitorOf b) d q a)
+      step-asks : stepAnswer b d q a ≡ asks (stepQuestions b d q a) (stepFigures (monitorOf b) d q a)
       unfolding stepAnswer
-      stepped = accepted-asks b (stepQuestions b d q a) (stepFigures (monitorOf b) d q a) e
+      step-asks = accepted-asks b (stepQuestions b d q a) (stepFigures (monitorOf b) d q a) e
 
       pub step-no-reading : known ≡ false → refused 10 0 ≡ stepAnswer b d q a
-      step-no-reading h = sym (stepped ∙ rw (← k, h))
+      step-no-reading h = sym (step-asks ∙ rw (← k, h))
 
       module _ (h : known ≡ true) where
         pub step-no-state : {n : ℕ} → n ≡ statesOf b → n ≤ q → refused 11 0 ≡ stepAnswer b d q a
-        step-no-state en l = sym (stepped ∙ rw (← k, h, le-ltb q (statesOf b) (rw en at l)))
+        step-no-state en l = sym (step-asks ∙ rw (← k, h, le-ltb q (statesOf b) (rw en at l)))
 
         module _ {n : ℕ} (en : n ≡ statesOf b) (l : q < n) {s : ℕ} (es : s ≡ symbolsOf b) where
           pub step-no-symbol : s ≤ a → refused 12 0 ≡ stepAnswer b d q a
           unfolding first
-          step-no-symbol g = sym (stepped ∙ rw (← k, h, lt-ltb q (statesOf b) (rw en at l), le-leb (symbolsOf b) a (rw es at g)))
+          step-no-symbol g = sym (step-asks ∙ rw (← k, h, lt-ltb q (statesOf b) (rw en at l), le-leb (symbolsOf b) a (rw es at g)))
 
           pub step-moves : (m : Monitor) {r : Answer} → a < s → m ≡ monitorOf b → r ≡ answered (stepFigures m d q a) → r ≡ stepAnswer b d q a
           unfolding first
           step-moves m g em er =
               er
               ∙ ap (λ (x : Monitor). answered (stepFigures x d q a)) em
-              ∙ sym (stepped ∙ rw (← k, h, lt-ltb q (statesOf b) (rw en at l), lt-leb (symbolsOf b) a (rw es at g)))
+              ∙ sym (step-asks ∙ rw (← k, h, lt-ltb q (statesOf b) (rw en at l), lt-leb (symbolsOf b) a (rw es at g)))
 
     module _ (w : List ℕ) where
-      traced : traceAnswer b d w ≡ asks (traceQuestions b d w) (traceFigures (monitorOf b) d w)
+      trace-asks : traceAnswer b d w ≡ asks (traceQuestions b d w) (traceFigures (monitorOf b) d w)
       unfolding traceAnswer
-      traced = accepted-asks b (traceQuestions b d w) (traceFigures (monitorOf b) d w) e
+      trace-asks = accepted-asks b (traceQuestions b d w) (traceFigures (monitorOf b) d w) e
 
       pub trace-no-reading : known ≡ false → refused 10 0 ≡ traceAnswer b d w
-      trace-no-reading h = sym (traced ∙ rw (← k, h))
+      trace-no-reading h = sym (trace-asks ∙ rw (← k, h))
 
       module _ (h : known ≡ true) {i : ℕ} (ei : i ≡ firstNotBelow (symbolsOf b) w) where
         pub trace-no-symbol : i < length w → refused 12 i ≡ traceAnswer b d w
-        trace-no-symbol l = sym (traced ∙ rw (← k, h, ← ei, ne-eqb i (length w) (λ (x : i ≡ length w). omega arith)))
+        trace-no-symbol l = sym (trace-asks ∙ rw (← k, h, ← ei, ne-eqb i (length w) (λ (x : i ≡ length w). omega arith)))
 
         pub trace-reads : (m : Monitor) {r : Answer} → i ≡ length w → m ≡ monitorOf b → r ≡ answered (traceFigures m d w) → r ≡ traceAnswer b d w
         trace-reads m l em er =
-            er ∙ ap (λ (x : Monitor). answered (traceFigures x d w)) em ∙ sym (traced ∙ rw (← k, h, ← ei, eq-eqb i (length w) l))
+            er ∙ ap (λ (x : Monitor). answered (traceFigures x d w)) em ∙ sym (trace-asks ∙ rw (← k, h, ← ei, eq-eqb i (length w) l))

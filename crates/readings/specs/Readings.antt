@@ -7,9 +7,7 @@ use Rattle.theory.specs.Monitor.{Monitor, reading, stateLimit}
 use Rattle.monitor.specs.Format.{statesOf, symbolsOf, monitorOf}
 use Rattle.monitor.specs.Questions.{tableQuestions, question10, question11, question12}
 use Rattle.readings.specs.declared.Stepped.{Stepped}
-use Rattle.readings.specs.declared.Stepped.the-variants as stepped
 use Rattle.readings.specs.declared.Traced.{Traced}
-use Rattle.readings.specs.declared.Traced.the-variants as traced
 
 -- "A step answers the next state and its reading"
 abbrev pub stepFigures : Monitor → ℕ → ℕ → ℕ → List ℕ
@@ -31,10 +29,10 @@ traceAnswer b d w =
     asks (tableQuestions stateLimit b ++ (question10 d ∷ question12 (symbolsOf b) w ∷ [])) (traceFigures (monitorOf b) d w)
 
 -- 01's numbers of the two answers
-abbrev pub steppedFigures : Stepped → Answer
-steppedFigures (stepped.To q r) = answered (q ∷ r ∷ [])
-steppedFigures (stepped.Refused r) = refused (r .number) (r .place)
+abbrev pub stepped : Stepped → Answer
+stepped (Stepped.To q r) = answered (q ∷ r ∷ [])
+stepped (Stepped.Refused r) = refused (r .number) (r .place)
 
-abbrev pub tracedFigures : Traced → Answer
-tracedFigures (traced.Reads r) = answered (r ∷ [])
-tracedFigures (traced.Refused r) = refused (r .number) (r .place)
+abbrev pub traced : Traced → Answer
+traced (Traced.Reads r) = answered (r ∷ [])
+traced (Traced.Refused r) = refused (r .number) (r .place)

@@ -11,7 +11,7 @@ ghost use Rattle.theory.specs.Answer.{Answer};
 ghost use Rattle.theory.specs.Monitor.{reading};
 ghost use Rattle.monitor.specs.Format.{Rows, Table, automatonOf, tableOf};
 ghost use Rattle.monitor.specs.Questions.{firstNotBelow};
-ghost use Rattle.readings.specs.Readings.{stepFigures, stepAnswer, steppedFigures, traceFigures, traceAnswer, tracedFigures};
+ghost use Rattle.readings.specs.Readings.{stepFigures, stepAnswer, stepped, traceFigures, traceAnswer, traced};
 
 // Where a step leads, and what is read there.
 pub enum Stepped {
@@ -71,7 +71,7 @@ fn step_table(
     symbol: usize,
 ) -> Stepped
     requires { ⌜ Rows n k (now nexts) × (length (now marks) ≡ n) × (state < n) × (symbol < k) ⌝ }
-    ensures { λ r. ⌜ ((s : ℕ) → steppedFigures r ≡ Answer.answered (stepFigures (tableOf n k s (now (marks .entry)) (now (nexts .entry))) domain state symbol)) ⌝ }
+    ensures { λ r. ⌜ ((s : ℕ) → stepped r ≡ Answer.answered (stepFigures (tableOf n k s (now (marks .entry)) (now (nexts .entry))) domain state symbol)) ⌝ }
 {
     let next = monitor::successor(nexts, n, k, state, symbol);
     Stepped::To {
@@ -82,7 +82,7 @@ fn step_table(
 
 // The step from a state under a symbol, read by marks (domain 3) or by classes (domain 6).
 pub fn step(body: &[u8], domain: usize, state: usize, symbol: usize) -> Stepped
-    ensures { λ r. ⌜ steppedFigures r ≡ stepAnswer (now (body .entry)) domain state symbol ⌝ }
+    ensures { λ r. ⌜ stepped r ≡ stepAnswer (now (body .entry)) domain state symbol ⌝ }
 {
     match monitor::judge(body) {
         Judgement::Refused(r) => {
@@ -126,7 +126,7 @@ fn trace_table(
     symbols: &[u8],
 ) -> Traced
     requires { ⌜ Table n k start (now marks) (now nexts) × (firstNotBelow k (now symbols) ≡ length (now symbols)) ⌝ }
-    ensures { λ r. ⌜ tracedFigures r ≡ Answer.answered (traceFigures (tableOf n k start (now (marks .entry)) (now (nexts .entry))) domain (now (symbols .entry))) ⌝ }
+    ensures { λ r. ⌜ traced r ≡ Answer.answered (traceFigures (tableOf n k start (now (marks .entry)) (now (nexts .entry))) domain (now (symbols .entry))) ⌝ }
 {
     let q = state_after(nexts, n, k, start, symbols);
     Traced::Reads(read(marks, nexts, n, k, domain, q))
@@ -134,7 +134,7 @@ fn trace_table(
 
 // The reading after a trace of any length, by marks (domain 3) or by classes (domain 6).
 pub fn trace(body: &[u8], domain: usize, symbols: &[u8]) -> Traced
-    ensures { λ r. ⌜ tracedFigures r ≡ traceAnswer (now (body .entry)) domain (now (symbols .entry)) ⌝ }
+    ensures { λ r. ⌜ traced r ≡ traceAnswer (now (body .entry)) domain (now (symbols .entry)) ⌝ }
 {
     match monitor::judge(body) {
         Judgement::Refused(r) => {
