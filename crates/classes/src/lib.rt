@@ -115,10 +115,10 @@ fn write_classes(marks: &[u8], outlook: Outlook, area: &mut [u8])
     requires { ⌜ length (now marks) ≤ length (now area) ⌝ }
     ensures { λ _. ⌜ now (area .exit) ≡ values (length (now (marks .entry))) (classBy (now (marks .entry)) (outlook .truth) (outlook .falsity)) ++ drop (length (now (marks .entry))) (now (area .entry)) ⌝ }
 {
-    let mut q = 0;
-    while q < marks.len() {
-        area[q] = class_by(marks, outlook, q);
-        q += 1;
+    let mut i = 0;
+    while i < marks.len() {
+        area[i] = class_by(marks, outlook, i);
+        i += 1;
     }
 }
 

@@ -8,12 +8,16 @@ fn judge(label: &[u8], body: &[u8]) {
     printing::text(b"\n");
 }
 
-// The answer, and what the area then holds.
-fn classify(label: &[u8], body: &[u8], area: &mut [u8]) {
+// The answer, and what the area then holds. Every place of the area is 255 before.
+fn classify(label: &[u8], body: &[u8], room: usize) {
     printing::text(label);
-    printing::classification(classes::classify(body, area));
-    printing::text(b", area");
-    printing::bytes(area);
+    let mut area = [255u8; 8];
+    if room <= 8 {
+        let lent = &mut area[0..room];
+        printing::classification(classes::classify(body, lent));
+        printing::text(b", area");
+        printing::bytes(lent);
+    }
     printing::text(b"\n");
 }
 
@@ -91,66 +95,44 @@ fn rows() {
 }
 
 fn areas() {
-    let mut three = [255u8; 3];
-    classify(
-        b"A, area of 3: ",
-        b"\x02\x02\x00\x00\x01\x00\x01\x01\x01",
-        &mut three,
-    );
-    let mut two = [255u8; 2];
-    classify(
-        b"A, area of 2: ",
-        b"\x02\x02\x00\x00\x01\x00\x01\x01\x01",
-        &mut two,
-    );
-    let mut one = [255u8; 1];
-    classify(
-        b"A, area of 1: ",
-        b"\x02\x02\x00\x00\x01\x00\x01\x01\x01",
-        &mut one,
-    );
-    let mut wrong = [255u8; 3];
+    let a = b"\x02\x02\x00\x00\x01\x00\x01\x01\x01";
+    classify(b"A, area of 3: ", a, 3);
+    classify(b"A, area of 2: ", a, 2);
+    classify(b"A, area of 1: ", a, 1);
     classify(
         b"a refused body: ",
         b"\x02\x02\x00\x00\x03\x00\x01\x01\x01",
-        &mut wrong,
+        3,
     );
 }
 
 fn tables() {
-    let mut b = [255u8; 2];
-    classify(b"B: ", b"\x02\x02\x00\x00\x02\x01\x00\x01\x01", &mut b);
-    let mut c = [255u8; 3];
+    classify(b"B: ", b"\x02\x02\x00\x00\x02\x01\x00\x01\x01", 2);
     classify(
         b"C: ",
         b"\x03\x04\x00\x00\x01\x02\x02\x00\x01\x01\x01\x01\x01\x01\x02\x02\x02\x02",
-        &mut c,
+        3,
     );
-    let mut d = [255u8; 1];
-    classify(b"D: ", b"\x01\x02\x00\x00\x00\x00", &mut d);
-    let mut g = [255u8; 5];
+    classify(b"D: ", b"\x01\x02\x00\x00\x00\x00", 1);
     classify(
         b"G: ",
         b"\x05\x02\x00\x00\x00\x01\x00\x02\x03\x01\x01\x02\x02\x02\x04\x03\x04\x04",
-        &mut g,
+        5,
     );
-    let mut h = [255u8; 2];
-    classify(b"H: ", b"\x02\x01\x00\x00\x01\x01\x01", &mut h);
-    let mut further = [255u8; 3];
+    classify(b"H: ", b"\x02\x01\x00\x00\x01\x01\x01", 2);
+}
+
+fn ugly_states() {
     classify(
         b"ugly further on: ",
         b"\x03\x02\x00\x00\x01\x00\x01\x02\x01\x01\x02\x02",
-        &mut further,
+        3,
     );
-    let mut outside = [255u8; 2];
-    classify(
-        b"ugly out of reach: ",
-        b"\x02\x01\x00\x01\x00\x00\x01",
-        &mut outside,
-    );
+    classify(b"ugly out of reach: ", b"\x02\x01\x00\x01\x00\x00\x01", 2);
 }
 
-fn steps() {
+// Questions 10, 11 and 12 of a step, in this order, and numbers that do not fit a byte.
+fn step_refusals() {
     let a = b"\x02\x02\x00\x00\x01\x00\x01\x01\x01";
     step(b"reading 5, state 9, message 9: ", a, 5, 9, 9);
     step(b"reading 3, state 9, message 9: ", a, 3, 9, 9);
@@ -158,6 +140,10 @@ fn steps() {
     step(b"reading 259: ", a, 259, 0, 0);
     step(b"state 256: ", a, 3, 256, 0);
     step(b"message 257: ", a, 3, 0, 257);
+}
+
+fn steps() {
+    let a = b"\x02\x02\x00\x00\x01\x00\x01\x01\x01";
     step(b"A, message 1: ", a, 3, 0, 1);
     step(b"A, message 0 by class: ", a, 6, 0, 0);
     step(
@@ -186,14 +172,18 @@ fn traces() {
     trace(b"E on 1 1: ", e, 3, b"\x01\x01");
     trace(b"E on 1 1 by class: ", e, 6, b"\x01\x01");
     trace(b"E on 1 0 1: ", e, 3, b"\x01\x00\x01");
-    trace(b"E on 1 2 9: ", e, 3, b"\x01\x02\x09");
-    trace(b"reading 5, message 9: ", e, 5, b"\x09");
     trace(
         b"a start marked true: ",
         b"\x02\x01\x00\x01\x00\x00\x01",
         3,
         b"",
     );
+}
+
+fn trace_refusals() {
+    let e = b"\x03\x02\x00\x00\x00\x01\x00\x01\x00\x02\x02\x02";
+    trace(b"E on 1 2 9: ", e, 3, b"\x01\x02\x09");
+    trace(b"reading 5, message 9: ", e, 5, b"\x09");
     trace(b"a refused body: ", b"", 3, b"");
     trace(b"E on 65700 messages: ", e, 3, &long(0));
     trace(b"and the last is 2: ", e, 3, &long(2));
@@ -205,6 +195,9 @@ fn main() {
     rows();
     areas();
     tables();
+    ugly_states();
+    step_refusals();
     steps();
     traces();
+    trace_refusals();
 }

@@ -11,10 +11,10 @@ use Rattle.classes.proofs.write_classes.Statement.{statement}
 use Rattle.classes.proofs.write_classes.Tie as tie
 
 abbrev Inv-loop : tie.InvT-loop
-Inv-loop marks outlook area₀ q₀ area q = (q ≤ length marks) × (area ≡ filled (classBy marks (outlook .truth) (outlook .falsity)) area₀ q)
+Inv-loop marks outlook area₀ i₀ area i = (i ≤ length marks) × (area ≡ filled (classBy marks (outlook .truth) (outlook .falsity)) area₀ i)
 
 abbrev μ-loop : tie.MeasureT-loop
-μ-loop marks outlook area₀ q₀ area q = length marks - q
+μ-loop marks outlook area₀ i₀ area i = length marks - i
 
 loop-holds : tie.Need-loop-holds Inv-loop μ-loop
 unfolding values
@@ -25,7 +25,7 @@ long : (c : tie.At-loop Inv-loop μ-loop) → length (c .loop .area) ≡ length 
 long c =
     let a = c .before .before .before .args in
     ap length (c .loop .inv .1)
-    ∙ length-filled (classBy (a .marks .now) (a .outlook .truth) (a .outlook .falsity)) (a .area .now) (c .loop .q) (le-trans (c .loop .inv .0) (c .before .before .before .pre))
+    ∙ length-filled (classBy (a .marks .now) (a .outlook .truth) (a .outlook .falsity)) (a .area .now) (c .loop .i) (le-trans (c .loop .inv .0) (c .before .before .before .pre))
 
 class-by-requires : tie.Need-class-by-requires Inv-loop μ-loop
 class-by-requires c κs = search needs
@@ -33,8 +33,8 @@ class-by-requires c κs = search needs
 slice-write-area : tie.Need-slice-write-area Inv-loop μ-loop
 slice-write-area c = rw (long (c .before .before)) (lt-of-lt-of-le (c .before .loop-test .taken) (c .before .before .before .before .before .pre))
 
-add-q : tie.Need-add-q Inv-loop μ-loop
-add-q c = search needs
+add-i : tie.Need-add-i Inv-loop μ-loop
+add-i c = search needs
 
 loop-less : tie.Need-loop-less Inv-loop μ-loop
 loop-less c = search needs
@@ -44,8 +44,8 @@ loop-again c =
     let a = c .before .before .before .before .before .args in
     let at = c .before .before .loop in (
       search needs,
-      ap₂ (λ (l : List ℕ) (v : ℕ). set l (at .q) v) (at .inv .1) (c .class-by .ensures)
-          ∙ filled-turn (classBy (a .marks .now) (a .outlook .truth) (a .outlook .falsity)) (a .area .now) (at .q) (lt-of-lt-of-le (c .before .loop-test .taken) (c .before .before .before .before .before .pre)),
+      ap₂ (λ (l : List ℕ) (v : ℕ). set l (at .i) v) (at .inv .1) (c .class-by .ensures)
+          ∙ filled-turn (classBy (a .marks .now) (a .outlook .truth) (a .outlook .falsity)) (a .area .now) (at .i) (lt-of-lt-of-le (c .before .loop-test .taken) (c .before .before .before .before .before .pre)),
     )
 
 same-length : tie.Need-same-length Inv-loop μ-loop
@@ -66,7 +66,7 @@ write-classes-spec =
     loop-holds
     class-by-requires
     slice-write-area
-    add-q
+    add-i
     loop-less
     loop-again
     same-length
