@@ -4,7 +4,7 @@ use mathlib.Core.List.{List, [], _∷_, _++_}
 use Prim.Native.Nat.{ℕ, _≤_, _<_}
 use lib.ListN.{length, drop}
 use borrow.Author.Tests.{le-leb, lt-leb}
-use Rattle.theory.specs.Answer.{Answer, refused, answered, asks, written}
+use Rattle.theory.specs.Answer.{Answer, refused, answered, written}
 use Rattle.theory.specs.Monitor.{Monitor, class, monitorability, statesReached}
 use Rattle.theory.proofs.Answer.{untouched, written-over}
 use Rattle.theory.proofs.Values.{length-values}

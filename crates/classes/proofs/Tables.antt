@@ -2,14 +2,13 @@
 use mathlib.Core.Path.{_≡_, refl, sym, ap, ap₂, subst, _∙_}
 use mathlib.Core.Bool.{Bool, true, false, cond, not, _&&_, and-false, and-assoc}
 use mathlib.Core.List.{List, [], _∷_, _++_}
-use Prim.Native.Nat.{ℕ, zero, suc, _+_, _≤_, _<_}
-use native.Mathlib.Nat.{lt-of-lt-of-le}
+use Prim.Native.Nat.{ℕ, zero, suc, _≤_, _<_}
 use native.Mathlib.Omega.{arith}
-use lib.Dec.{eqb, ltb}
+use lib.Dec.{eqb}
 use lib.ListN.{length, drop}
 use borrow.Author.Tests.{eq-eqb, lt-ltb, le-ltb}
-use Rattle.theory.specs.Search.{any, count, values}
-use Rattle.theory.specs.Automaton.{Automaton, Closed, leads, reachedFrom}
+use Rattle.theory.specs.Search.{count, values}
+use Rattle.theory.specs.Automaton.{leads, reachedFrom}
 use Rattle.theory.specs.Answer.{answered}
 use Rattle.theory.specs.Monitor.{Monitor, WellFormed, marked, classFrom, class, weak, reached, uglyReached, monitorability, statesReached, stateLimit}
 use Rattle.theory.proofs.Search.{any-same, any-short, count-same, count-short, count-any}

@@ -10,7 +10,7 @@ ghost use Rattle.theory.specs.Search.{values};
 ghost use Rattle.theory.specs.Automaton.{leads};
 ghost use Rattle.theory.specs.Monitor.{classFrom, class, weak, monitorability, statesReached, stateLimit};
 ghost use Rattle.theory.specs.Answer.{Answer, written};
-ghost use Rattle.state_set.specs.Member.{member, Exactly};
+ghost use Rattle.state_set.specs.Member.{Exactly};
 ghost use Rattle.monitor.specs.Format.{Rows, Table, automatonOf, tableOf, monitorOf};
 ghost use Rattle.classes.specs.Sets.{hasMark, classBy, monitorabilityBy};
 ghost use Rattle.classes.specs.Classify.{classList, classifyAnswer, classification};

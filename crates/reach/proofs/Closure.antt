@@ -4,16 +4,16 @@ use mathlib.Core.Path.{_≡_, refl, sym, ap, _∙_, subst}
 use mathlib.Core.Bool.{Bool, true, false, not, _&&_, _||_}
 use mathlib.Core.List.{List, [], _∷_, _++_}
 use mathlib.Core.Logic.{_⊎_, inl, inr, ⊎-elim}
-use Prim.Native.Nat.{ℕ, zero, suc, _+_, _-_, _≤_, _<_}
-use native.Mathlib.Nat.{add-zero, add-suc, add-sub-of-le, le-refl, le-of-suc-le-suc, not-suc-le-zero, eq-or-lt-of-le, zero-lt-suc}
+use Prim.Native.Nat.{ℕ, zero, suc, _+_, _-_, _<_}
+use native.Mathlib.Nat.{add-zero, add-suc, add-sub-of-le}
 use native.Mathlib.Omega.{arith}
 use lib.Dec.{eqb, ltb}
-use borrow.Author.Tests.{eqb-true, eq-eqb, lt-ltb, ltb-true, not-true}
-use Rattle.theory.specs.Search.{any, count}
+use borrow.Author.Tests.{eqb-true, eq-eqb, lt-ltb, ltb-true}
+use Rattle.theory.specs.Search.{any}
 use Rattle.theory.specs.Automaton.{Automaton, Closed, Trace, run, Reaches, leads, reachedFrom}
-use Rattle.theory.proofs.Search.{clash, not-clash, both-ways, or-cases, or-left, or-right, and-left, and-right, and-both, any-at, any-find}
+use Rattle.theory.proofs.Search.{clash, both-ways, or-cases, or-left, or-right, and-left, and-right, and-both, any-at, any-find}
 use Rattle.theory.proofs.Reach.{Hits, hits-here, hits-step, run-in, run-append, trace-append, leads-sound, leads-complete, reached-sound, reached-complete}
-use Rattle.reach.specs.Closure.{leadsTo, leadsInto, widened, spread}
+use Rattle.reach.specs.Closure.{leadsTo, leadsInto, spread}
 
 -- ---- expanding: `done` are the states whose successors have been added
 

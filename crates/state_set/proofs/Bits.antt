@@ -1,6 +1,6 @@
 -- The binary digits of a word, as tests: what the code's operations on words do to them.
 use mathlib.Core.Path.{_≡_, refl, sym, ap, _∙_}
-use mathlib.Core.Bool.{Bool, true, false, cond, not, _&&_, _||_, and-true, and-false, or-false}
+use mathlib.Core.Bool.{Bool, false, cond, not, _&&_, _||_, and-true, and-false, or-false}
 use mathlib.Core.Logic.{_⊎_, inl, inr}
 use Prim.Native.Nat.{ℕ, zero, suc, _+_, _-_, _*_, _/_, _%_, _^_, _≤_, _<_, min, max}
 use native.Mathlib.Nat.{mod-lt, zero-lt-suc, zero-div, div-one, div-div-eq-div-mul, div-eq-of-lt, pow-suc, pow-succ', lt-of-lt-of-le, not-suc-le-zero, le-of-suc-le-suc, one-mul}

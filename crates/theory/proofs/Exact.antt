@@ -1,13 +1,13 @@
 -- The numbers that compute are those of the published definitions: `class` of definition 8, `monitorability` of definition 10 and lemma 3.
-use mathlib.Core.Path.{_≡_, refl, sym, ap, _∙_, subst}
-use mathlib.Core.Bool.{Bool, true, false, cond, _&&_}
+use mathlib.Core.Path.{_≡_, refl, sym, ap, subst}
+use mathlib.Core.Bool.{Bool, true, false, cond}
 use mathlib.Core.Logic.{_↔_}
 use Prim.Native.Nat.{ℕ, zero, suc, _≤_, _<_}
 use native.Mathlib.Omega.{arith}
 use lib.Dec.{eqb}
-use borrow.Author.Tests.{eqb-true, eq-eqb, ne-eqb}
+use borrow.Author.Tests.{eqb-true, eq-eqb}
 use Rattle.theory.specs.Search.{any}
-use Rattle.theory.specs.Automaton.{Automaton, run, Reaches, leads}
+use Rattle.theory.specs.Automaton.{run, Reaches, leads}
 use Rattle.theory.specs.Monitor.{Monitor, WellFormed, Finds, Class, good, bad, positive, negative, neutral, ugly, weak, Monitorability, none, as-start, marked, classFrom, class, reached, uglyReached, monitorability}
 use Rattle.theory.proofs.Search.{clash, not-clash, and-left, and-right, and-both, any-at, any-find}
 use Rattle.theory.proofs.Reach.{run-in, reaches-hits, leads-sound, leads-complete, reached-sound, reached-complete}

@@ -1,17 +1,17 @@
 -- `leads` says exactly that some trace of any length leads to a state that passes the test.
-use mathlib.Core.Path.{_≡_, refl, sym, ap, _∙_, subst}
-use mathlib.Core.Bool.{Bool, true, false, _||_}
+use mathlib.Core.Path.{_≡_, refl, sym, ap, _∙_}
+use mathlib.Core.Bool.{Bool, true, _||_}
 use mathlib.Core.List.{List, [], _∷_, _++_}
-use mathlib.Core.Logic.{_⊎_, inl, inr, ⊎-elim}
-use Prim.Native.Nat.{ℕ, zero, suc, _+_, _-_, _≤_, _<_}
-use native.Mathlib.Nat.{le-refl, le-of-suc-le-suc, not-suc-le-zero}
+use mathlib.Core.Logic.{⊎-elim}
+use Prim.Native.Nat.{ℕ, zero, suc, _+_, _≤_, _<_}
+use native.Mathlib.Nat.{le-of-suc-le-suc, not-suc-le-zero}
 use native.Mathlib.Omega.{arith}
 use lib.ListN.{length}
 use lib.Dec.{eqb}
 use borrow.Author.Tests.{eqb-true, eq-eqb}
 use Rattle.theory.specs.Search.{any}
 use Rattle.theory.specs.Automaton.{Automaton, Closed, Trace, run, Reaches, within, leads, reachedFrom}
-use Rattle.theory.proofs.Search.{clash, or-cases, or-left, or-right, any-at, any-find, any-same}
+use Rattle.theory.proofs.Search.{or-cases, or-left, or-right, any-at, any-find, any-same}
 use Rattle.theory.proofs.Settle.{settled}
 
 -- ---- runs

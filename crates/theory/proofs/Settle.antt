@@ -1,13 +1,13 @@
 -- A test of the numbers below n that grows from round to round, and that has stopped growing once a round adds nothing, has stopped after n rounds.
-use mathlib.Core.Path.{_≡_, refl, sym, ap, _∙_}
+use mathlib.Core.Path.{_≡_, refl, ap, _∙_}
 use mathlib.Core.Bool.{Bool, true, false, not, _&&_}
 use mathlib.Core.Logic.{_⊎_, inl, inr, ⊎-elim}
-use Prim.Native.Nat.{ℕ, zero, suc, _+_, _≤_, _<_}
+use Prim.Native.Nat.{ℕ, zero, suc, _+_, _<_}
 use native.Mathlib.Nat.{add-zero, add-suc}
 use native.Mathlib.Omega.{arith}
 use borrow.Author.Tests.{not-true}
 use Rattle.theory.specs.Search.{any, count}
-use Rattle.theory.proofs.Search.{clash, not-clash, both-ways, and-left, and-right, and-both, any-at, any-find, count-le, count-more}
+use Rattle.theory.proofs.Search.{clash, both-ways, and-left, and-right, and-both, any-at, any-find, count-le, count-more}
 
 module _ (n : ℕ) (grown : ℕ → ℕ → Bool) where
   -- the round after r adds nothing

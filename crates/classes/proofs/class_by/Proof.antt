@@ -1,6 +1,7 @@
-use borrow.Author.Needs.{needs}
+-- `class_by` meets its contract.
 use mathlib.Core.Path.{ap₂, _∙_}
 use lib.ListN.{getD}
+use borrow.Author.Needs.{needs}
 use Rattle.theory.specs.Monitor.{classFrom}
 use Rattle.classes.proofs.class_by.Statement.{statement}
 use Rattle.classes.proofs.class_by.Tie as tie

@@ -1,3 +1,4 @@
+-- `class_from` meets its contract.
 use borrow.Author.Needs.{needs}
 use Rattle.classes.proofs.Marks.{class-rest}
 use Rattle.classes.proofs.class_from.Statement.{statement}

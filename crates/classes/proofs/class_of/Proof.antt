@@ -1,5 +1,6 @@
-use borrow.Author.Needs.{needs}
+-- `class_of` meets its contract.
 use mathlib.Core.Path.{_∙_}
+use borrow.Author.Needs.{needs}
 use Rattle.classes.proofs.Tables.{class-by-is}
 use Rattle.classes.proofs.class_of.Statement.{statement}
 use Rattle.classes.proofs.class_of.Tie as tie

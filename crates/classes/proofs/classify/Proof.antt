@@ -1,3 +1,4 @@
+-- `classify` meets its contract: each return has its law in Entry.
 use borrow.Author.Needs.{needs}
 use Rattle.monitor.proofs.Accepted.{judged-accepted, marks-fit, table-lent, monitor-lent}
 use Rattle.classes.proofs.Entry.{classify-judged, classify-short, classify-fits}

@@ -1,3 +1,4 @@
+-- `classify_table` meets its contract.
 use borrow.Author.Needs.{needs}
 use Rattle.classes.proofs.Tables.{figures-are, area-is}
 use Rattle.classes.proofs.classify_table.Statement.{statement}

@@ -1,3 +1,4 @@
+-- `monitorability_by` meets its contract.
 use borrow.Author.Needs.{needs}
 use Rattle.classes.proofs.Tables.{some-ugly, none-ugly}
 use Rattle.classes.proofs.monitorability_by.Statement.{statement}

@@ -1,3 +1,4 @@
+-- `outlook_of` meets its contract.
 use borrow.Author.Needs.{needs}
 use Rattle.classes.specs.Sets.{hasMark}
 use Rattle.classes.proofs.Tables.{exactly-at}

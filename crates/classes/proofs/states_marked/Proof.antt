@@ -1,10 +1,11 @@
-use borrow.Author.Needs.{needs}
-use mathlib.Core.Path.{_≡_, sym, subst}
+-- `states_marked` meets its contract: the set holds the states passed that have the mark.
+use mathlib.Core.Path.{sym, subst}
 use mathlib.Core.Logic.{⊎-elim}
 use Prim.Native.Nat.{ℕ, _≤_, _-_}
 use native.Mathlib.Nat.{le-antisymm, lt-of-lt-of-le}
-use borrow.Author.Tests.{eq-eqb, ne-eqb}
 use lib.ListN.{length}
+use borrow.Author.Needs.{needs}
+use borrow.Author.Tests.{eq-eqb, ne-eqb}
 use Rattle.theory.specs.Monitor.{stateLimit}
 use Rattle.state_set.specs.Member.{member, Exactly}
 use Rattle.classes.specs.Sets.{hasMark}

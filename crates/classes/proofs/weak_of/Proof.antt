@@ -1,5 +1,6 @@
-use borrow.Author.Needs.{needs}
+-- `weak_of` meets its contract.
 use native.Mathlib.Omega.{arith}
+use borrow.Author.Needs.{needs}
 use Rattle.classes.proofs.Marks.{weak-rest}
 use Rattle.classes.proofs.weak_of.Statement.{statement}
 use Rattle.classes.proofs.weak_of.Tie as tie

@@ -1,9 +1,10 @@
-use borrow.Author.Needs.{needs}
+-- `write_classes` meets its contract: the area holds the classes of the states passed, and then what it held before.
 use mathlib.Core.List.{List}
-use native.Mathlib.Nat.{le-trans, le-antisymm, lt-of-lt-of-le}
-use lib.ListN.{length, set}
 use mathlib.Core.Path.{_≡_, refl, ap, ap₂, _∙_}
 use Prim.Native.Nat.{ℕ, _≤_, _-_}
+use native.Mathlib.Nat.{le-trans, le-antisymm, lt-of-lt-of-le}
+use lib.ListN.{length, set}
+use borrow.Author.Needs.{needs}
 use Rattle.theory.specs.Search.{values}
 use Rattle.theory.proofs.Values.{filled, length-filled, filled-turn}
 use Rattle.classes.specs.Sets.{classBy}

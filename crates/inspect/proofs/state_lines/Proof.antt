@@ -1,7 +1,7 @@
 -- `state_lines` stays within its slice and ends.
 use Prim.Native.Nat.{_≤_, _-_}
-use borrow.Author.Needs.{needs}
 use lib.ListN.{length}
+use borrow.Author.Needs.{needs}
 use Rattle.inspect.proofs.state_lines.Statement.{statement}
 use Rattle.inspect.proofs.state_lines.Tie as tie
 

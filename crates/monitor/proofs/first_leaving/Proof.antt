@@ -3,8 +3,8 @@ use Prim.Native.Nat.{_*_, _-_}
 use native.Mathlib.Omega.{arith}
 use lib.ListN.{length}
 use borrow.Author.Needs.{needs}
-use Rattle.monitor.specs.Questions.{leaves}
 use Rattle.theory.proofs.Scan.{Passed, rows-begin, rows-go-on, rows-stop, rows-end}
+use Rattle.monitor.specs.Questions.{leaves}
 use Rattle.monitor.proofs.Rows.{rows-most, row-end}
 use Rattle.monitor.proofs.first_leaving.Statement.{statement}
 use Rattle.monitor.proofs.first_leaving.Tie as tie

@@ -1,8 +1,8 @@
 -- `first_leaving_row` meets its contract: the next states of q before `i` keep the verdict of q.
 use Prim.Native.Nat.{_*_, _-_}
 use native.Mathlib.Omega.{arith}
-use Rattle.monitor.specs.Questions.{leaves}
 use Rattle.theory.proofs.Scan.{Passed, scan-begins, scan-goes-on, scan-finds, scan-ends}
+use Rattle.monitor.specs.Questions.{leaves}
 use Rattle.monitor.proofs.Rows.{rows-most, row-end}
 use Rattle.monitor.proofs.Leaving.{unmarked-row, same-stays, other-leaves}
 use Rattle.monitor.proofs.first_leaving_row.Statement.{statement}

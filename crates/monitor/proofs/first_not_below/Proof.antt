@@ -4,8 +4,8 @@ use native.Mathlib.Omega.{arith}
 use lib.ListN.{length}
 use borrow.Author.Needs.{needs}
 use borrow.Author.Tests.{le-leb, lt-leb}
-use Rattle.monitor.specs.Questions.{notBelow}
 use Rattle.theory.proofs.Scan.{Passed, scan-begins, scan-goes-on, scan-finds, scan-ends}
+use Rattle.monitor.specs.Questions.{notBelow}
 use Rattle.monitor.proofs.first_not_below.Statement.{statement}
 use Rattle.monitor.proofs.first_not_below.Tie as tie
 

@@ -1,7 +1,7 @@
 -- `bytes` stays within its slice and ends.
 use Prim.Native.Nat.{_≤_, _-_}
-use borrow.Author.Needs.{needs}
 use lib.ListN.{length}
+use borrow.Author.Needs.{needs}
 use Rattle.printing.proofs.bytes.Statement.{statement}
 use Rattle.printing.proofs.bytes.Tie as tie
 

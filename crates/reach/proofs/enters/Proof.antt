@@ -1,7 +1,7 @@
 -- `enters` meets its contract: none of the symbols passed leads into the set.
 use mathlib.Core.Path.{_≡_, _∙_}
 use mathlib.Core.Bool.{false}
-use Prim.Native.Nat.{ℕ, _≤_, _-_}
+use Prim.Native.Nat.{_≤_, _-_}
 use borrow.Author.Needs.{needs}
 use Rattle.theory.specs.Search.{any}
 use Rattle.state_set.specs.Member.{member}

@@ -1,7 +1,6 @@
 -- `reachable` meets its contract: what was seen can be reached, and what was expanded has its successors seen.
-use Prim.Native.Nat.{ℕ, _-_}
+use Prim.Native.Nat.{_-_}
 use native.Mathlib.Nat.{lt-of-lt-of-le}
-use native.Mathlib.Omega.{arith}
 use borrow.Author.Needs.{needs}
 use Rattle.theory.specs.Search.{count}
 use Rattle.theory.specs.Monitor.{stateLimit}

@@ -1,5 +1,5 @@
 -- `reaching` meets its contract: the set grew from the targets by widening, and has more states after each turn.
-use Prim.Native.Nat.{ℕ, _-_}
+use Prim.Native.Nat.{_-_}
 use borrow.Author.Needs.{needs}
 use Rattle.theory.specs.Search.{count}
 use Rattle.theory.specs.Monitor.{stateLimit}

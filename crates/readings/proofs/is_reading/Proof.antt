@@ -1,4 +1,4 @@
-use borrow.Author.Needs.{needs}
+-- `is_reading` meets its contract.
 use borrow.Author.Tests.{eq-eqb, ne-eqb}
 use Rattle.readings.proofs.is_reading.Statement.{statement}
 use Rattle.readings.proofs.is_reading.Tie as tie

@@ -1,5 +1,6 @@
-use borrow.Author.Needs.{needs}
+-- `read` meets its contract.
 use native.Mathlib.Omega.{arith}
+use borrow.Author.Needs.{needs}
 use Rattle.monitor.specs.Format.{tableOf}
 use Rattle.readings.proofs.Traces.{reads-mark, reads-class}
 use Rattle.readings.proofs.read.Statement.{statement}

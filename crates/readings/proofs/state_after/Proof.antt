@@ -1,8 +1,9 @@
-use borrow.Author.Needs.{needs}
+-- `state_after` meets its contract: the messages not yet read lead on from the state held.
 use mathlib.Core.Path.{_≡_, refl}
 use Prim.Native.Nat.{_≤_, _<_, _-_}
 use native.Mathlib.Omega.{arith}
 use lib.ListN.{length, drop}
+use borrow.Author.Needs.{needs}
 use Rattle.theory.specs.Automaton.{run}
 use Rattle.monitor.specs.Format.{automatonOf}
 use Rattle.monitor.proofs.Body.{all-below}

@@ -1,5 +1,6 @@
-use borrow.Author.Needs.{needs}
+-- `step` meets its contract: each return has its law in Entry.
 use mathlib.Core.Path.{refl}
+use borrow.Author.Needs.{needs}
 use borrow.Author.Tests.{not-true, not-false}
 use Rattle.monitor.specs.Format.{startOf}
 use Rattle.monitor.proofs.Accepted.{judged-accepted, marks-fit, table-lent, monitor-lent}

@@ -1,5 +1,6 @@
-use borrow.Author.Needs.{needs}
+-- `trace` meets its contract: each return has its law in Entry.
 use native.Mathlib.Omega.{arith}
+use borrow.Author.Needs.{needs}
 use borrow.Author.Tests.{not-true, not-false}
 use Rattle.monitor.proofs.Accepted.{accepted-head, judged-accepted, marks-fit, table-lent, monitor-lent}
 use Rattle.readings.proofs.Entry.{scan-whole, all-symbols, trace-judged, trace-no-reading, trace-no-symbol, trace-reads}

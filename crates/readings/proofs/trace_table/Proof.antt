@@ -1,7 +1,8 @@
-use borrow.Author.Needs.{needs}
+-- `trace_table` meets its contract.
 use mathlib.Core.Path.{ap}
 use mathlib.Core.List.{[], _∷_}
 use Prim.Native.Nat.{ℕ}
+use borrow.Author.Needs.{needs}
 use Rattle.theory.specs.Answer.{answered}
 use Rattle.monitor.specs.Format.{tableOf}
 use Rattle.readings.proofs.Traces.{reads-at}

@@ -1,7 +1,7 @@
 -- The code reads the digit; past the word there is none.
 use mathlib.Core.Path.{sym}
-use borrow.Author.Needs.{needs}
 use native.Mathlib.Omega.{arith}
+use borrow.Author.Needs.{needs}
 use Rattle.state_set.specs.Member.{member}
 use Rattle.state_set.proofs.Bits.{bit-read, bit-high}
 use Rattle.state_set.proofs.StateSet.has.Statement.{statement}
