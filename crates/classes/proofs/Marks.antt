@@ -7,7 +7,7 @@ use native.Mathlib.Omega.{arith}
 use lib.Dec.{eqb, ltb}
 use borrow.Author.Tests.{eqb-true, eq-eqb, lt-ltb, le-ltb, ltb-true}
 use Rattle.theory.specs.Monitor.{classFrom, weak}
-use Rattle.theory.proofs.Search.{both-ways, or-cases, or-left, or-right, and-left, and-right, and-both, lt-or-le}
+use Rattle.theory.proofs.Below.{both-ways, or-cases, or-left, or-right, and-left, and-right, and-both, lt-or-le}
 
 pub class-rest : (v : ℕ) (t f : Bool) → (v ≡ 0 → ⊥) → (v ≡ 1 → ⊥) → 1 ≡ classFrom v t f
 class-rest zero t f a b = absurd (a refl)
@@ -20,7 +20,8 @@ weak-rest (suc zero) l = absurd (omega arith)
 weak-rest (suc (suc zero)) l = absurd (omega arith)
 weak-rest (suc (suc (suc zero))) l = absurd (omega arith)
 weak-rest (suc (suc (suc (suc zero)))) l = absurd (omega arith)
-weak-rest (suc (suc (suc (suc (suc c))))) l = refl
+weak-rest (suc (suc (suc (suc (suc zero))))) l = refl
+weak-rest (suc (suc (suc (suc (suc (suc c)))))) l = refl
 
 pub marked-none : (f none : ℕ → Bool) → ((p : ℕ) → none p ≡ false) → (p : ℕ) → none p ≡ (ltb p 0 && f p)
 marked-none f none n p = n p ∙ ap (λ (b : Bool). b && f p) (sym (le-ltb p 0 zero-le))

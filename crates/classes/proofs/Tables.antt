@@ -7,18 +7,18 @@ use native.Mathlib.Omega.{arith}
 use lib.Dec.{eqb}
 use lib.ListN.{length, drop}
 use borrow.Author.Tests.{eq-eqb, lt-ltb, le-ltb}
-use Rattle.theory.specs.Search.{count, values}
+use Rattle.theory.specs.Below.{count, values}
 use Rattle.theory.specs.Automaton.{leads, reachedFrom}
 use Rattle.theory.specs.Answer.{answered}
 use Rattle.theory.specs.Monitor.{Monitor, WellFormed, marked, classFrom, class, weak, reached, uglyReached, monitorability, statesReached, stateLimit}
-use Rattle.theory.proofs.Search.{any-same, any-short, count-same, count-short, count-any}
+use Rattle.theory.proofs.Below.{any-same, any-short, count-same, count-short, count-any}
 use Rattle.theory.proofs.Reach.{hits-here, leads-complete}
 use Rattle.theory.proofs.Values.{values-same}
 use Rattle.state_set.specs.declared.StateSet.{StateSet}
 use Rattle.state_set.specs.Member.{member, Exactly}
 use Rattle.monitor.specs.Format.{automatonOf, tableOf, Table}
 use Rattle.classes.specs.Sets.{hasMark, classBy, uglyBy, monitorabilityBy}
-use Rattle.classes.specs.Classify.{classList}
+use Rattle.classes.specs.Classify.{classList, classifyFigures}
 
 -- a set that holds exactly the states that pass, below the bound and past it
 exactly-in : {n : ℕ} {f : ℕ → Bool} {s : StateSet} → Exactly n f s → (q : ℕ) → q < n → member s q ≡ f q
@@ -59,7 +59,7 @@ module _ (k s : ℕ) (vs ts : List ℕ) {n : ℕ} {t f : StateSet} (et : Exactly
   pub classes-are : values n (classBy vs t f) ≡ values n (class (tableOf n k s vs ts))
   classes-are = values-same n (classBy vs t f) (class (tableOf n k s vs ts)) class-by-is
 
-  module _ (table : Table n k s vs ts) {r : StateSet} (er : Exactly n (reachedFrom (automatonOf n k ts) s) r) where
+  module _ (table : Table stateLimit n k s vs ts) {r : StateSet} (er : Exactly n (reachedFrom (automatonOf n k ts) s) r) where
     pub reached-is : count stateLimit (member r) ≡ statesReached (tableOf n k s vs ts)
     unfolding statesReached
     reached-is =
@@ -93,10 +93,10 @@ module _ (vs : List ℕ) (t f r rest ugly : StateSet) (s : ℕ) (d : (q : ℕ) �
 
 -- ---- the whole answer
 
-module _ {k s n : ℕ} {vs ts : List ℕ} (table : Table n k s vs ts) {t f r : StateSet} (et : Exactly n (leads (automatonOf n k ts) (hasMark vs 1)) t)
+module _ {k s n : ℕ} {vs ts : List ℕ} (table : Table stateLimit n k s vs ts) {t f r : StateSet} (et : Exactly n (leads (automatonOf n k ts) (hasMark vs 1)) t)
     (ef : Exactly n (leads (automatonOf n k ts) (hasMark vs 2)) f) (er : Exactly n (reachedFrom (automatonOf n k ts) s) r) where
   pub figures-are : {a b : ℕ} → a ≡ monitorabilityBy vs t f r s → b ≡ count stateLimit (member r)
-      → answered (a ∷ b ∷ []) ≡ answered (monitorability (tableOf n k s vs ts) ∷ statesReached (tableOf n k s vs ts) ∷ [])
+      → answered (a ∷ b ∷ []) ≡ answered (classifyFigures (tableOf n k s vs ts))
   figures-are i j = ap₂ (λ (x y : ℕ). answered (x ∷ y ∷ [])) (i ∙ monitorability-is k s vs ts et ef table er) (j ∙ reached-is k s vs ts et ef table er)
 
   pub area-is : (area : List ℕ) {l : List ℕ} → l ≡ values (length vs) (classBy vs t f) ++ drop (length vs) area → l ≡ classList (tableOf n k s vs ts) ++ drop n area

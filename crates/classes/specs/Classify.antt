@@ -1,9 +1,9 @@
 -- The call that answers the classes of a table.
 use mathlib.Core.List.{List, [], _∷_, _++_}
 use Prim.Native.Nat.{ℕ}
-use Rattle.theory.specs.Search.{values}
-use Rattle.theory.specs.Answer.{Answer, refused, answered, asks}
-use Rattle.theory.specs.Monitor.{Monitor, class, monitorability, statesReached, stateLimit}
+use Rattle.theory.specs.Below.{values}
+use Rattle.theory.specs.Answer.{Question, Answer, refused, answered, asks}
+use Rattle.theory.specs.Monitor.{Monitor, class, monitorability, statesReached}
 use Rattle.monitor.specs.Format.{statesOf, monitorOf}
 use Rattle.monitor.specs.Questions.{tableQuestions, question13}
 use Rattle.classes.specs.declared.Classification.{Classification}
@@ -13,11 +13,16 @@ use Rattle.classes.specs.declared.Classification.the-variants.{Classifie
 abbrev pub classList : Monitor → List ℕ
 classList m = values (m .automaton .states) (class m)
 
--- classes ask 1 to 8 and 13, and answer the monitorability and the number of states reached
-unfoldable pub classifyAnswer : List ℕ → ℕ → Answer
-classifyAnswer b area =
-    asks (tableQuestions stateLimit b ++ (question13 (statesOf b) area ∷ []))
-    (monitorability (monitorOf b) ∷ statesReached (monitorOf b) ∷ [])
+-- classes ask 1 to 8 and 13; `room` is the length of the area lent
+abbrev pub classifyQuestions : List ℕ → ℕ → List Question
+classifyQuestions b room = question13 (statesOf b) room ∷ []
+
+-- and answer the monitorability and the number of states reached
+abbrev pub classifyFigures : Monitor → List ℕ
+classifyFigures m = monitorability m ∷ statesReached m ∷ []
+
+unfoldable pub classifyAnswer : ℕ → List ℕ → ℕ → Answer
+classifyAnswer limit b room = asks (tableQuestions limit b ++ classifyQuestions b room) (classifyFigures (monitorOf b))
 
 -- 01's numbers of a classification
 abbrev pub classification : Classification → Answer

@@ -4,7 +4,7 @@ use mathlib.Core.List.{List}
 use Prim.Native.Nat.{ℕ}
 use lib.Dec.{eqb, ltb}
 use lib.ListN.{getD}
-use Rattle.theory.specs.Search.{count}
+use Rattle.theory.specs.Below.{count}
 use Rattle.theory.specs.Monitor.{classFrom, weak, stateLimit}
 use Rattle.state_set.specs.declared.StateSet.{StateSet}
 use Rattle.state_set.specs.Member.{member}

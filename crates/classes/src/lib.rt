@@ -3,17 +3,17 @@ use monitor::Judgement;
 use monitor::Refusal;
 use state_set::StateSet;
 ghost use mathlib.Core.Path.{_≡_};
-ghost use mathlib.Core.List.{[], _∷_, _++_};
+ghost use mathlib.Core.List.{_++_};
 ghost use Prim.Native.Nat.{ℕ, _≤_, _<_};
 ghost use lib.ListN.{length, drop};
-ghost use Rattle.theory.specs.Search.{values};
+ghost use Rattle.theory.specs.Below.{values};
 ghost use Rattle.theory.specs.Automaton.{leads};
-ghost use Rattle.theory.specs.Monitor.{classFrom, class, weak, monitorability, statesReached, stateLimit};
+ghost use Rattle.theory.specs.Monitor.{classFrom, class, weak, stateLimit};
 ghost use Rattle.theory.specs.Answer.{Answer, written};
 ghost use Rattle.state_set.specs.Member.{Exactly};
 ghost use Rattle.monitor.specs.Format.{Rows, Table, automatonOf, tableOf, monitorOf};
 ghost use Rattle.classes.specs.Sets.{hasMark, classBy, monitorabilityBy};
-ghost use Rattle.classes.specs.Classify.{classList, classifyAnswer, classification};
+ghost use Rattle.classes.specs.Classify.{classList, classifyFigures, classifyAnswer, classification};
 
 pub enum Classification {
     Classified {
@@ -24,7 +24,7 @@ pub enum Classification {
 }
 
 // The states from which true can be reached, and those from which false can.
-pub struct Outlook {
+struct Outlook {
     truth: StateSet,
     falsity: StateSet,
 }
@@ -47,7 +47,7 @@ fn states_marked(marks: &[u8], v: u8) -> StateSet
 
 // Which verdicts can still be found from each state.
 fn outlook_of(marks: &[u8], nexts: &[u8], n: usize, k: usize) -> Outlook
-    requires { ⌜ Rows n k (now nexts) × (length (now marks) ≡ n) ⌝ }
+    requires { ⌜ Rows stateLimit n k (now nexts) × (length (now marks) ≡ n) ⌝ }
     ensures truth { λ r. ⌜ Exactly n (leads (automatonOf n k (now (nexts .entry))) (hasMark (now (marks .entry)) 1)) (r .truth) ⌝ }
     ensures falsity { λ r. ⌜ Exactly n (leads (automatonOf n k (now (nexts .entry))) (hasMark (now (marks .entry)) 2)) (r .falsity) ⌝ }
 {
@@ -90,7 +90,7 @@ fn class_by(marks: &[u8], outlook: Outlook, q: usize) -> u8
 
 // The class of state q of a table, for callers that want one class only.
 pub fn class_of(marks: &[u8], nexts: &[u8], n: usize, k: usize, q: usize) -> u8
-    requires { ⌜ Rows n k (now nexts) × (length (now marks) ≡ n) × (q < n) ⌝ }
+    requires { ⌜ Rows stateLimit n k (now nexts) × (length (now marks) ≡ n) × (q < n) ⌝ }
     ensures { λ r. ⌜ ((s : ℕ) → r ≡ class (tableOf n k s (now (marks .entry)) (now (nexts .entry))) q) ⌝ }
 {
     class_by(marks, outlook_of(marks, nexts, n, k), q)
@@ -145,8 +145,8 @@ fn classify_table(
     start: usize,
     area: &mut [u8],
 ) -> Classification
-    requires { ⌜ Table n k start (now marks) (now nexts) × (n ≤ length (now area)) ⌝ }
-    ensures figures { λ r. ⌜ classification r ≡ Answer.answered (monitorability (tableOf n k start (now (marks .entry)) (now (nexts .entry))) ∷ statesReached (tableOf n k start (now (marks .entry)) (now (nexts .entry))) ∷ []) ⌝ }
+    requires { ⌜ Table stateLimit n k start (now marks) (now nexts) × (n ≤ length (now area)) ⌝ }
+    ensures figures { λ r. ⌜ classification r ≡ Answer.answered (classifyFigures (tableOf n k start (now (marks .entry)) (now (nexts .entry)))) ⌝ }
     ensures area { λ _. ⌜ now (area .exit) ≡ classList (tableOf n k start (now (marks .entry)) (now (nexts .entry))) ++ drop n (now (area .entry)) ⌝ }
 {
     let outlook = outlook_of(marks, nexts, n, k);
@@ -160,8 +160,8 @@ fn classify_table(
 
 // Classifies the states of a table: their classes go into the area, which a refusal leaves as it was.
 pub fn classify(body: &[u8], area: &mut [u8]) -> Classification
-    ensures figures { λ r. ⌜ classification r ≡ classifyAnswer (now (body .entry)) (length (now (area .entry))) ⌝ }
-    ensures area { λ _. ⌜ now (area .exit) ≡ written (classifyAnswer (now (body .entry)) (length (now (area .entry)))) (classList (monitorOf (now (body .entry)))) (now (area .entry)) ⌝ }
+    ensures figures { λ r. ⌜ classification r ≡ classifyAnswer stateLimit (now (body .entry)) (length (now (area .entry))) ⌝ }
+    ensures area { λ _. ⌜ now (area .exit) ≡ written (classifyAnswer stateLimit (now (body .entry)) (length (now (area .entry)))) (classList (monitorOf (now (body .entry)))) (now (area .entry)) ⌝ }
 {
     match monitor::judge(body) {
         Judgement::Refused(r) => {

@@ -1,28 +1,46 @@
 -- Marks and next states as parts of a body, and questions 6 to 8: what each no answers.
 use mathlib.Core.Path.{_≡_, ap, _∙_}
 use mathlib.Core.List.{List, [], _∷_}
-use Prim.Native.Nat.{ℕ, _+_, _*_, _-_, _≤_, _<_}
+use Prim.Native.Nat.{ℕ, zero, suc, _+_, _*_, _-_, _≤_, _<_, min}
 use native.Mathlib.Nat.{le-refl}
 use native.Mathlib.Omega.{arith}
 use lib.ListN.{length, getD, take, drop, length-take, length-drop}
-use lib.Seq.{take-all}
+use lib.Seq.{take-all, take-nil, drop-nil}
 use borrow.Author.Tests.{eq-eqb, ne-eqb, leb-false}
 use Rattle.theory.specs.Answer.{refused, answered, asks}
-use Rattle.theory.specs.Monitor.{stateLimit}
-use Rattle.theory.proofs.Search.{first-le, first-none}
+use Rattle.theory.proofs.Below.{first-whole, first-none}
 use Rattle.monitor.specs.Format.{statesOf, symbolsOf, drawnMarks, nexts, Rows}
-use Rattle.monitor.specs.Questions.{notBelow, firstNotBelow, leaves, firstLeaving, question8, rowQuestions}
+use Rattle.monitor.specs.Questions.{notBelow, firstNotBelow, revokes, firstRevoking, question8, rowQuestions}
 use Rattle.monitor.proofs.Head.{Head}
 
 -- ---- parts
 
--- what `&body[3..3 + n]` lends
-pub marks-lent : (b : List ℕ) {n : ℕ} → n ≡ statesOf b → take (3 + n - 3) (drop 3 b) ≡ drawnMarks b
-marks-lent b {n} e = (let l : 3 + n - 3 ≡ statesOf b = omega (arith, e) in ap (λ (i : ℕ). take i (drop 3 b)) l)
+-- a place past the end is the end
+take-least : (i : ℕ) (l : List ℕ) → take (min i (length l)) l ≡ take i l
+take-least zero l = (let e : min 0 (length l) ≡ 0 = omega arith in ap (λ (n : ℕ). take n l) e)
+take-least (suc i) [] = take-nil (min (suc i) 0)
+take-least (suc i) (x ∷ l) = (let e : min (suc i) (suc (length l)) ≡ suc (min i (length l)) = omega arith in ap (λ (n : ℕ). take n (x ∷ l)) e ∙ ap (λ (r : List ℕ). x ∷ r) (take-least i l))
 
--- what `&body[3 + n..]` lends
-pub nexts-lent : (b : List ℕ) {n : ℕ} → n ≡ statesOf b → take (length b - (3 + n)) (drop (3 + n) b) ≡ nexts b
-nexts-lent b {n} e = take-all (length b - (3 + n)) (drop (3 + n) b) (simp length-drop (le-refl (length b - (3 + n)))) ∙ ap (λ (i : ℕ). drop (3 + i) b) e
+drop-least : (i : ℕ) (l : List ℕ) → drop (min i (length l)) l ≡ drop i l
+drop-least zero l = (let e : min 0 (length l) ≡ 0 = omega arith in ap (λ (n : ℕ). drop n l) e)
+drop-least (suc i) [] = drop-nil (min (suc i) 0)
+drop-least (suc i) (x ∷ l) = (let e : min (suc i) (suc (length l)) ≡ suc (min i (length l)) = omega arith in ap (λ (n : ℕ). drop n (x ∷ l)) e ∙ drop-least i l)
+
+-- the part from the end of the head to the end of the marks, as far as the body goes
+pub marks-lent : (b : List ℕ) {n from to : ℕ} → n ≡ statesOf b → from ≡ min 3 (length b) → to ≡ min (3 + n) (length b) → take (to - from) (drop from b) ≡ drawnMarks b
+marks-lent b {n} {from} {to} e f t =
+    let size : to - from ≡ min (statesOf b) (length (drop 3 b)) = omega (arith, e, f, t, length-drop 3 b) in
+    ap (λ (i : ℕ). take (to - from) (drop i b)) f
+    ∙ ap (take (to - from)) (drop-least 3 b)
+    ∙ ap (λ (i : ℕ). take i (drop 3 b)) size
+    ∙ take-least (statesOf b) (drop 3 b)
+
+-- the part from there on
+pub nexts-lent : (b : List ℕ) {n from : ℕ} → n ≡ statesOf b → from ≡ min (3 + n) (length b) → take (length b - from) (drop from b) ≡ nexts b
+nexts-lent b {n} {from} e f =
+    take-all (length b - from) (drop from b) (simp length-drop (le-refl (length b - from)))
+    ∙ ap (λ (i : ℕ). drop i b) (f ∙ ap (λ (i : ℕ). min (3 + i) (length b)) e)
+    ∙ drop-least (3 + statesOf b) b
 
 module _ {limit : ℕ} {b : List ℕ} (h : Head limit b) where
   pub marks-length : length (drawnMarks b) ≡ statesOf b
@@ -37,8 +55,8 @@ pub all-below : (bound : ℕ) (l : List ℕ) → firstNotBelow bound l ≡ lengt
 all-below bound l e i h = leb-false bound (getD l i 0) (first-none (notBelow bound l) 0 (length l) i (omega arith) (omega arith) (omega arith))
 
 -- what question 7 leaves of the next states
-pub rows-of : {b : List ℕ} → Head stateLimit b → firstNotBelow (statesOf b) (nexts b) ≡ length (nexts b) → Rows (statesOf b) (symbolsOf b) (nexts b)
-rows-of {b} h e = record {
+pub rows-of : {limit : ℕ} {b : List ℕ} → Head limit b → firstNotBelow (statesOf b) (nexts b) ≡ length (nexts b) → Rows limit (statesOf b) (symbolsOf b) (nexts b)
+rows-of {b = b} h e = record {
   states-most = h .states-most;
   symbols-most = h .symbols-most;
   rows-length = nexts-length h;
@@ -52,24 +70,24 @@ module _ (b : List ℕ) {vs ts : List ℕ} (p : vs ≡ drawnMarks b) (s : ts ≡
 
   module _ {m : ℕ} (e : m ≡ firstNotBelow 3 vs) (g : length vs ≤ m) where
     right-marks : firstNotBelow 3 (drawnMarks b) ≡ length (drawnMarks b)
-    right-marks = rw (← p) (omega (arith, first-le (notBelow 3 vs) 0 (length vs)))
+    right-marks = rw (← p) (first-whole (notBelow 3 vs) (length vs) e g)
 
     pub wrong-next : {x : ℕ} → x ≡ firstNotBelow (statesOf b) ts → x < length ts → asks (rowQuestions b) [] ≡ refused 7 (3 + statesOf b + x)
     wrong-next {x} f l = rw (eq-eqb (firstNotBelow 3 (drawnMarks b)) (length (drawnMarks b)) right-marks, ← s, ← f, ne-eqb x (length ts) (λ q. omega arith))
 
     module _ {x : ℕ} (f : x ≡ firstNotBelow (statesOf b) ts) (i : length ts ≤ x) where
       right-nexts : firstNotBelow (statesOf b) (nexts b) ≡ length (nexts b)
-      right-nexts = rw (← s) (omega (arith, first-le (notBelow (statesOf b) ts) 0 (length ts)))
+      right-nexts = rw (← s) (first-whole (notBelow (statesOf b) ts) (length ts) f i)
 
       -- questions 6 and 7 answered yes
       inside : asks (rowQuestions b) [] ≡ asks (question8 b ∷ []) []
       inside = rw (eq-eqb (firstNotBelow 3 (drawnMarks b)) (length (drawnMarks b)) right-marks, eq-eqb (firstNotBelow (statesOf b) (nexts b)) (length (nexts b)) right-nexts)
 
-      pub wrong-verdict : {y : ℕ} → y ≡ firstLeaving vs ts (symbolsOf b) → y < length ts → asks (rowQuestions b) [] ≡ refused 8 (3 + statesOf b + y)
+      pub wrong-verdict : {y : ℕ} → y ≡ firstRevoking vs ts (symbolsOf b) → y < length ts → asks (rowQuestions b) [] ≡ refused 8 (3 + statesOf b + y)
       wrong-verdict {y} d l = inside ∙ rw (← p, ← s, ← d, ne-eqb y (length ts) (λ q. omega arith))
 
-      pub rows-pass : {y : ℕ} → y ≡ firstLeaving vs ts (symbolsOf b) → length ts ≤ y → asks (rowQuestions b) [] ≡ answered []
-      rows-pass {y} d l = inside ∙ rw (← p, ← s, ← d, eq-eqb y (length ts) (omega (arith, first-le (leaves vs ts (symbolsOf b)) 0 (length ts))))
+      pub rows-pass : {y : ℕ} → y ≡ firstRevoking vs ts (symbolsOf b) → length ts ≤ y → asks (rowQuestions b) [] ≡ answered []
+      rows-pass {y} d l = inside ∙ rw (← p, ← s, ← d, eq-eqb y (length ts) (d ∙ first-whole (revokes vs ts (symbolsOf b)) (length ts) d l))
 
-      pub rows-lent : Head stateLimit b → Rows (length vs) (symbolsOf b) ts
+      pub rows-lent : {limit : ℕ} → Head limit b → Rows limit (length vs) (symbolsOf b) ts
       rows-lent h = rw (p, s, marks-length h) (rows-of h right-nexts)

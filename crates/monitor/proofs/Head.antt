@@ -7,7 +7,7 @@ use lib.Dec.{leb}
 use borrow.Author.Tests.{leb-true, eqb-true, ltb-true, le-leb, lt-leb, le-ltb, lt-ltb, eq-eqb, ne-eqb}
 use Rattle.theory.specs.Answer.{refused, answered, asks}
 use Rattle.theory.specs.Monitor.{symbolLimit}
-use Rattle.theory.proofs.Search.{and-left, and-right}
+use Rattle.theory.proofs.Below.{and-left, and-right}
 use Rattle.theory.proofs.Answer.{asks-yes}
 use Rattle.monitor.specs.Format.{statesOf, symbolsOf, startOf}
 use Rattle.monitor.specs.Questions.{question1, question2, question3, question4, question5, headQuestions}

@@ -1,5 +1,5 @@
 pub mod Rows
-pub mod Leaving
+pub mod Revoking
 pub mod Head
 pub mod Body
 pub mod Accepted

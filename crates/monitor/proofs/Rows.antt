@@ -7,17 +7,17 @@ use native.Mathlib.Omega.{arith}
 use lib.Arith.{digits-lt, digits-div}
 use lib.ListN.{length, getD}
 use Rattle.theory.specs.Automaton.{Closed}
-use Rattle.theory.specs.Monitor.{stateLimit, symbolLimit}
+use Rattle.theory.specs.Monitor.{symbolLimit}
 use Rattle.monitor.specs.Format.{Rows, automatonOf}
 
-pub rows-most : {n k : ℕ} {ts : List ℕ} → Rows n k ts → length ts ≤ stateLimit * symbolLimit
+pub rows-most : {limit n k : ℕ} {ts : List ℕ} → Rows limit n k ts → length ts ≤ limit * symbolLimit
 rows-most r = omega (arith, r .rows-length, mul-le-mul (r .states-most) (r .symbols-most))
 
-pub place-in : {n k q a : ℕ} {ts : List ℕ} → Rows n k ts → q < n → a < k → q * k + a < length ts
+pub place-in : {limit n k q a : ℕ} {ts : List ℕ} → Rows limit n k ts → q < n → a < k → q * k + a < length ts
 place-in r l h = omega (arith, r .rows-length, digits-lt l h)
 
-pub row-end : {n k q : ℕ} {ts : List ℕ} → Rows n k ts → q < n → q * k + k ≤ length ts
-row-end {n} {k} {q} r l = omega (arith, r .rows-length, mul-le-mul-right k l)
+pub row-end : {limit n k q : ℕ} {ts : List ℕ} → Rows limit n k ts → q < n → q * k + k ≤ length ts
+row-end {n = n} {k = k} {q = q} r l = omega (arith, r .rows-length, mul-le-mul-right k l)
 
 -- a place in row q belongs to state q
 pub row-of : (q k : ℕ) {i : ℕ} → q * k ≤ i → i < q * k + k → i / k ≡ q
@@ -28,5 +28,5 @@ row-of q k {i} l h =
 pub next-inside : (n k : ℕ) (ts : List ℕ) → length ts ≡ n * k → ((i : ℕ) → i < length ts → getD ts i 0 < n) → Closed (automatonOf n k ts)
 next-inside n k ts e inside = record { next-in = λ q a l h. inside (q * k + a) (omega (arith, digits-lt l h)) }
 
-pub next-of-rows : {n k : ℕ} {ts : List ℕ} → Rows n k ts → Closed (automatonOf n k ts)
-next-of-rows {n} {k} {ts} r = next-inside n k ts (r .rows-length) (r .inside)
+pub next-of-rows : {limit n k : ℕ} {ts : List ℕ} → Rows limit n k ts → Closed (automatonOf n k ts)
+next-of-rows {n = n} {k = k} {ts = ts} r = next-inside n k ts (r .rows-length) (r .inside)

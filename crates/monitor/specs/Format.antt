@@ -1,22 +1,24 @@
--- A table as bytes: "Byte 0 is n, the number of states. Byte 1 is k, the number of messages. Byte 2 is the start state. Then come n marks.
--- Then n times k next states, row by row, message 0 first." A body is any list of numbers, whether or not they are bytes.
+-- A table as bytes. A body is any list of numbers, whether or not they are bytes.
 use mathlib.Core.Path.{_≡_}
 use mathlib.Core.List.{List}
 use Prim.Native.Nat.{ℕ, _+_, _*_, _≤_, _<_}
 use lib.ListN.{length, getD, take, drop}
 use Rattle.theory.specs.Automaton.{Automaton}
-use Rattle.theory.specs.Monitor.{Monitor, WellFormed, stateLimit, symbolLimit}
+use Rattle.theory.specs.Monitor.{Monitor, WellFormed, symbolLimit}
 
+-- "Byte 0 is n, the number of states."
 abbrev pub statesOf : List ℕ → ℕ
 statesOf b = getD b 0 0
 
+-- "Byte 1 is k, the number of messages."
 abbrev pub symbolsOf : List ℕ → ℕ
 symbolsOf b = getD b 1 0
 
+-- "Byte 2 is the start state."
 abbrev pub startOf : List ℕ → ℕ
 startOf b = getD b 2 0
 
--- the marks as drawn: questions 6 and 8
+-- "Then come n marks": as drawn, for questions 6 and 8
 abbrev pub drawnMarks : List ℕ → List ℕ
 drawnMarks b = take (statesOf b) (drop 3 b)
 
@@ -24,6 +26,7 @@ drawnMarks b = take (statesOf b) (drop 3 b)
 abbrev pub marks : List ℕ → List ℕ
 marks b = drawnMarks b
 
+-- "Then n times k next states, row by row, message 0 first."
 abbrev pub nexts : List ℕ → List ℕ
 nexts b = drop (3 + statesOf b) b
 
@@ -40,14 +43,14 @@ abbrev pub monitorOf : List ℕ → Monitor
 monitorOf b = tableOf (statesOf b) (symbolsOf b) (startOf b) (marks b) (nexts b)
 
 -- what functions below the entry points require of next states handed to them
-pub record Rows (n k : ℕ) (ts : List ℕ) : Type 0 where
-  pub states-most : n ≤ stateLimit
+pub record Rows (limit n k : ℕ) (ts : List ℕ) : Type 0 where
+  pub states-most : n ≤ limit
   pub symbols-most : k ≤ symbolLimit
   pub rows-length : length ts ≡ n * k
   pub inside : (i : ℕ) → i < length ts → getD ts i 0 < n
 
 -- and of marks and next states together
-pub record Table (n k s : ℕ) (vs ts : List ℕ) : Type 0 where
-  pub rows : Rows n k ts
+pub record Table (limit n k s : ℕ) (vs ts : List ℕ) : Type 0 where
+  pub rows : Rows limit n k ts
   pub marks-length : length vs ≡ n
-  pub well-formed : WellFormed stateLimit (tableOf n k s vs ts)
+  pub well-formed : WellFormed limit (tableOf n k s vs ts)

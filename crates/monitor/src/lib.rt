@@ -3,13 +3,13 @@ use theory::STATE_LIMIT;
 use theory::SYMBOL_LIMIT;
 ghost use mathlib.Core.Path.{_≡_};
 ghost use mathlib.Core.List.{[]};
-ghost use Prim.Native.Nat.{_+_, _*_, _≤_, _<_};
+ghost use Prim.Native.Nat.{_*_, _<_, min};
 ghost use lib.ListN.{length, getD};
-ghost use Rattle.theory.specs.Search.{first};
+ghost use Rattle.theory.specs.Below.{first};
 ghost use Rattle.theory.specs.Monitor.{stateLimit};
 ghost use Rattle.theory.specs.Answer.{Answer, asks};
-ghost use Rattle.monitor.specs.Format.{statesOf, drawnMarks, nexts, Rows, automatonOf};
-ghost use Rattle.monitor.specs.Questions.{firstNotBelow, leaves, firstLeaving, headQuestions, rowQuestions, judgement, judgeAnswer};
+ghost use Rattle.monitor.specs.Format.{drawnMarks, nexts, Rows, automatonOf};
+ghost use Rattle.monitor.specs.Questions.{firstNotBelow, revokes, firstRevoking, headQuestions, rowQuestions, judgement, judgeAnswer};
 
 // The number of the question that was answered no, and its place.
 pub struct Refusal {
@@ -43,9 +43,9 @@ pub fn first_not_below(bytes: &[u8], bound: u8) -> usize
 }
 
 // The index of the first next state of q that gives up the verdict of q, or the end of q's row.
-fn first_leaving_row(marks: &[u8], nexts: &[u8], k: usize, q: usize) -> usize
-    requires { ⌜ Rows (length (now marks)) k (now nexts) × (q < length (now marks)) ⌝ }
-    ensures { λ r. ⌜ r ≡ first (leaves (now (marks .entry)) (now (nexts .entry)) k) (q * k) k ⌝ }
+fn first_revoking_row(marks: &[u8], nexts: &[u8], k: usize, q: usize) -> usize
+    requires { ⌜ Rows stateLimit (length (now marks)) k (now nexts) × (q < length (now marks)) ⌝ }
+    ensures { λ r. ⌜ r ≡ first (revokes (now (marks .entry)) (now (nexts .entry)) k) (q * k) k ⌝ }
 {
     let end = q * k + k;
     let mark = marks[q];
@@ -64,13 +64,13 @@ fn first_leaving_row(marks: &[u8], nexts: &[u8], k: usize, q: usize) -> usize
 }
 
 // The same for all rows: the index of the first such next state, or how many next states there are.
-fn first_leaving(marks: &[u8], nexts: &[u8], k: usize) -> usize
-    requires { ⌜ Rows (length (now marks)) k (now nexts) ⌝ }
-    ensures { λ r. ⌜ r ≡ firstLeaving (now (marks .entry)) (now (nexts .entry)) k ⌝ }
+fn first_revoking(marks: &[u8], nexts: &[u8], k: usize) -> usize
+    requires { ⌜ Rows stateLimit (length (now marks)) k (now nexts) ⌝ }
+    ensures { λ r. ⌜ r ≡ firstRevoking (now (marks .entry)) (now (nexts .entry)) k ⌝ }
 {
     let mut q = 0;
     while q < marks.len() {
-        let i = first_leaving_row(marks, nexts, k, q);
+        let i = first_revoking_row(marks, nexts, k, q);
         if i < q * k + k {
             return i;
         }
@@ -81,7 +81,7 @@ fn first_leaving(marks: &[u8], nexts: &[u8], k: usize) -> usize
 
 // The byte at i, or 0 past the end.
 pub fn byte_at(body: &[u8], i: usize) -> usize
-    ensures { λ r. ⌜ r ≡ getD (now (body .entry)) i 0 ⌝ }
+    ensures { λ r. ⌜ (r ≡ getD (now (body .entry)) i 0) × (r < 256) ⌝ }
 {
     if i < body.len() {
         return body[i] as usize;
@@ -89,22 +89,27 @@ pub fn byte_at(body: &[u8], i: usize) -> usize
     0
 }
 
-// The marks of a body that has room for them, as drawn.
+fn least(a: usize, b: usize) -> usize
+    ensures { λ r. ⌜ r ≡ min a b ⌝ }
+{
+    if a < b { a } else { b }
+}
+
+// The marks of a body as drawn, as far as it has them.
 pub fn drawn_marks(body: &[u8]) -> &[u8]
-    requires { ⌜ 3 + statesOf (now body) ≤ length (now body) ⌝ }
     ensures { λ r. ⌜ now r ≡ drawnMarks (now (body .entry)) ⌝ }
 {
-    let n = byte_at(body, 0);
-    &body[3..3 + n]
+    let from = least(3, body.len());
+    let to = least(3 + byte_at(body, 0), body.len());
+    &body[from..to]
 }
 
 // The next states of a body: all that stands behind the marks.
 pub fn next_states(body: &[u8]) -> &[u8]
-    requires { ⌜ 3 + statesOf (now body) ≤ length (now body) ⌝ }
     ensures { λ r. ⌜ now r ≡ nexts (now (body .entry)) ⌝ }
 {
-    let n = byte_at(body, 0);
-    &body[3 + n..]
+    let from = least(3 + byte_at(body, 0), body.len());
+    &body[from..]
 }
 
 // Questions 1 to 5.
@@ -155,16 +160,16 @@ fn judge_rows(body: &[u8]) -> Judgement
     if next < nexts.len() {
         return refused(7, 3 + n + next);
     }
-    let leaving = first_leaving(marks, nexts, k);
-    if leaving < nexts.len() {
-        return refused(8, 3 + n + leaving);
+    let revoking = first_revoking(marks, nexts, k);
+    if revoking < nexts.len() {
+        return refused(8, 3 + n + revoking);
     }
     Judgement::Accepted
 }
 
 // Accepts a body, or refuses it with the first question that it answers no.
 pub fn judge(body: &[u8]) -> Judgement
-    ensures { λ r. ⌜ judgement r ≡ judgeAnswer (now (body .entry)) ⌝ }
+    ensures { λ r. ⌜ judgement r ≡ judgeAnswer stateLimit (now (body .entry)) ⌝ }
 {
     match judge_head(body) {
         Judgement::Refused(r) => {
@@ -177,7 +182,7 @@ pub fn judge(body: &[u8]) -> Judgement
 
 // The successor of state q under symbol a.
 pub fn successor(nexts: &[u8], n: usize, k: usize, q: usize, a: usize) -> usize
-    requires { ⌜ Rows n k (now nexts) × (q < n) × (a < k) ⌝ }
+    requires { ⌜ Rows stateLimit n k (now nexts) × (q < n) × (a < k) ⌝ }
     ensures { λ r. ⌜ (r ≡ automatonOf n k (now (nexts .entry)) .next q a) × (r < n) ⌝ }
 {
     nexts[q * k + a] as usize

@@ -92,7 +92,7 @@ pub fn stepped(answer: Stepped) {
 pub fn traced(answer: Traced) {
     match answer {
         Traced::Refused(r) => refusal(r),
-        Traced::Reads(reading) => {
+        Traced::Reads { reading } => {
             text(b"reads ");
             number(reading);
         }

@@ -9,9 +9,9 @@ use native.Mathlib.Nat.{add-zero, add-suc, add-sub-of-le}
 use native.Mathlib.Omega.{arith}
 use lib.Dec.{eqb, ltb}
 use borrow.Author.Tests.{eqb-true, eq-eqb, lt-ltb, ltb-true}
-use Rattle.theory.specs.Search.{any}
+use Rattle.theory.specs.Below.{any}
 use Rattle.theory.specs.Automaton.{Automaton, Closed, Trace, run, Reaches, leads, reachedFrom}
-use Rattle.theory.proofs.Search.{clash, both-ways, or-cases, or-left, or-right, and-left, and-right, and-both, any-at, any-find}
+use Rattle.theory.proofs.Below.{clash, is-true, both-ways, or-cases, or-left, or-right, and-left, and-right, and-both, any-at, any-find}
 use Rattle.theory.proofs.Reach.{Hits, hits-here, hits-step, run-in, run-append, trace-append, leads-sound, leads-complete, reached-sound, reached-complete}
 use Rattle.reach.specs.Closure.{leadsTo, leadsInto, spread}
 
@@ -77,11 +77,7 @@ module _ (g : Automaton) where
       inside r = subst (λ (p : ℕ). p < g .states) (r .arrives) (run-in c s (r .word) l (r .trace))
 
       finished : (p : ℕ) → p < g .states → seen p ≡ true → done p ≡ true
-      finished p h t = go (done p) refl
-        where
-          go : (b : Bool) → done p ≡ b → done p ≡ true
-          go true e = e
-          go false e = absurd (clash (and-both (seen p) (not (done p)) t (ap not e)) (none p h))
+      finished p h t = is-true (λ e. clash (and-both (seen p) (not (done p)) t (ap not e)) (none p h))
 
       along : (p : ℕ) (w : List ℕ) → p < g .states → seen p ≡ true → Trace g w → seen (run g p w) ≡ true
       along p [] h t v = t

@@ -6,9 +6,9 @@ use native.Mathlib.Nat.{lt-of-lt-of-le}
 use native.Mathlib.Omega.{arith}
 use lib.Dec.{eqb, ltb}
 use borrow.Author.Tests.{eq-eqb, not-true}
-use Rattle.theory.specs.Search.{any, count, first}
+use Rattle.theory.specs.Below.{any, count, first}
 use Rattle.theory.specs.Automaton.{Automaton, Closed, leads, reachedFrom}
-use Rattle.theory.proofs.Search.{or-left, or-right, and-left, and-right, count-le, count-mono, count-more, count-full, first-below, first-here}
+use Rattle.theory.proofs.Below.{or-left, or-right, and-left, and-right, count-le, count-mono, count-more, count-full, first-below, first-here}
 use Rattle.reach.specs.Closure.{leadsTo, spread}
 use Rattle.reach.proofs.Closure.{Expanding, expanding-first, expanding-turn, expanding-last, Widening, widening-turn, widening-last, spread-keeps}
 use Rattle.reach.proofs.Steps.{with-in}

@@ -7,9 +7,9 @@ use native.Mathlib.Nat.{le-antisymm}
 use native.Mathlib.Numerals.{add-one}
 use lib.Dec.{eqb, ltb}
 use borrow.Author.Tests.{eqb-true, lt-ltb}
-use Rattle.theory.specs.Search.{any}
+use Rattle.theory.specs.Below.{any}
 use Rattle.theory.specs.Automaton.{Automaton}
-use Rattle.theory.proofs.Search.{both-ways, or-cases, or-left, and-left, any-at, any-more}
+use Rattle.theory.proofs.Below.{both-ways, or-cases, or-left, and-left, any-at, any-more}
 use Rattle.reach.specs.Closure.{leadsTo, leadsInto, widened, spread}
 
 -- a state below the limit is added as it stands

@@ -3,15 +3,16 @@ use state_set::StateSet;
 ghost use mathlib.Core.Path.{_≡_};
 ghost use mathlib.Core.Bool.{Bool};
 ghost use Prim.Native.Nat.{ℕ, _<_};
-ghost use Rattle.theory.specs.Search.{any};
+ghost use Rattle.theory.specs.Below.{any};
 ghost use Rattle.theory.specs.Automaton.{leads, reachedFrom};
+ghost use Rattle.theory.specs.Monitor.{stateLimit};
 ghost use Rattle.state_set.specs.Member.{member, Exactly};
 ghost use Rattle.monitor.specs.Format.{Rows, automatonOf};
 ghost use Rattle.reach.specs.Closure.{leadsTo, leadsInto, widened, spread};
 
 // The states that one symbol leads to from q.
 fn successors(nexts: &[u8], n: usize, k: usize, q: usize) -> StateSet
-    requires { ⌜ Rows n k (now nexts) × (q < n) ⌝ }
+    requires { ⌜ Rows stateLimit n k (now nexts) × (q < n) ⌝ }
     ensures { λ r. ⌜ ((p : ℕ) → member r p ≡ any k (leadsTo (automatonOf n k (now (nexts .entry))) q p)) ⌝ }
 {
     let mut set = StateSet::empty();
@@ -25,7 +26,7 @@ fn successors(nexts: &[u8], n: usize, k: usize, q: usize) -> StateSet
 
 // The states that can be reached from start: the lowest state still to expand is expanded until none is left.
 pub fn reachable(nexts: &[u8], n: usize, k: usize, start: usize) -> StateSet
-    requires { ⌜ Rows n k (now nexts) × (start < n) ⌝ }
+    requires { ⌜ Rows stateLimit n k (now nexts) × (start < n) ⌝ }
     ensures { λ r. ⌜ Exactly n (reachedFrom (automatonOf n k (now (nexts .entry))) start) r ⌝ }
 {
     let mut seen = StateSet::empty().with(start);
@@ -42,7 +43,7 @@ pub fn reachable(nexts: &[u8], n: usize, k: usize, start: usize) -> StateSet
 
 // Whether some symbol leads from q into the set.
 fn enters(nexts: &[u8], n: usize, k: usize, q: usize, set: StateSet) -> bool
-    requires { ⌜ Rows n k (now nexts) × (q < n) ⌝ }
+    requires { ⌜ Rows stateLimit n k (now nexts) × (q < n) ⌝ }
     ensures { λ r. ⌜ r ≡ any k (leadsInto (automatonOf n k (now (nexts .entry))) (member set) q) ⌝ }
 {
     let mut a = 0;
@@ -57,7 +58,7 @@ fn enters(nexts: &[u8], n: usize, k: usize, q: usize, set: StateSet) -> bool
 
 // The set, with q in it too where some symbol leads from q into the set.
 fn widen(nexts: &[u8], n: usize, k: usize, q: usize, set: StateSet) -> StateSet
-    requires { ⌜ Rows n k (now nexts) × (q < n) ⌝ }
+    requires { ⌜ Rows stateLimit n k (now nexts) × (q < n) ⌝ }
     ensures { λ r. ⌜ ((p : ℕ) → member r p ≡ widened (automatonOf n k (now (nexts .entry))) (member set) q p) ⌝ }
 {
     if set.has(q) {
@@ -71,7 +72,7 @@ fn widen(nexts: &[u8], n: usize, k: usize, q: usize, set: StateSet) -> StateSet
 
 // The set widened by each state in turn.
 fn widen_all(nexts: &[u8], n: usize, k: usize, set: StateSet) -> StateSet
-    requires { ⌜ Rows n k (now nexts) ⌝ }
+    requires { ⌜ Rows stateLimit n k (now nexts) ⌝ }
     ensures { λ r. ⌜ ((p : ℕ) → member r p ≡ spread (automatonOf n k (now (nexts .entry))) (member set) n p) ⌝ }
 {
     let mut wider = set;
@@ -85,7 +86,7 @@ fn widen_all(nexts: &[u8], n: usize, k: usize, set: StateSet) -> StateSet
 
 // The states from which some trace leads into the targets: widened until nothing is added.
 pub fn reaching(nexts: &[u8], n: usize, k: usize, targets: StateSet) -> StateSet
-    requires { ⌜ Rows n k (now nexts) ⌝ }
+    requires { ⌜ Rows stateLimit n k (now nexts) ⌝ }
     ensures { λ r. ⌜ ((f : ℕ → Bool) → Exactly n f targets → Exactly n (leads (automatonOf n k (now (nexts .entry))) f) r) ⌝ }
 {
     let mut set = targets;

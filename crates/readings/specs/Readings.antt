@@ -2,31 +2,34 @@
 use mathlib.Core.List.{List, [], _∷_, _++_}
 use Prim.Native.Nat.{ℕ}
 use Rattle.theory.specs.Automaton.{run}
-use Rattle.theory.specs.Answer.{Answer, refused, answered, asks}
-use Rattle.theory.specs.Monitor.{Monitor, reading, stateLimit}
+use Rattle.theory.specs.Answer.{Question, Answer, refused, answered, asks}
+use Rattle.theory.specs.Monitor.{Monitor, reading}
 use Rattle.monitor.specs.Format.{statesOf, symbolsOf, monitorOf}
 use Rattle.monitor.specs.Questions.{tableQuestions, question10, question11, question12}
 use Rattle.readings.specs.declared.Stepped.{Stepped}
 use Rattle.readings.specs.declared.Traced.{Traced}
 
+-- a step asks 1 to 8, 10, 11, 12; "its one message has place 0"
+abbrev pub stepQuestions : List ℕ → ℕ → ℕ → ℕ → List Question
+stepQuestions b d q a = question10 d ∷ question11 (statesOf b) q ∷ question12 (symbolsOf b) (a ∷ []) ∷ []
+
 -- "A step answers the next state and its reading"
 abbrev pub stepFigures : Monitor → ℕ → ℕ → ℕ → List ℕ
 stepFigures m d q a = m .automaton .next q a ∷ reading m d (m .automaton .next q a) ∷ []
 
--- a step asks 1 to 8, 10, 11, 12; "its one message has place 0"
-unfoldable pub stepAnswer : List ℕ → ℕ → ℕ → ℕ → Answer
-stepAnswer b d q a =
-    asks (tableQuestions stateLimit b ++ (question10 d ∷ question11 (statesOf b) q ∷ question12 (symbolsOf b) (a ∷ []) ∷ []))
-    (stepFigures (monitorOf b) d q a)
+unfoldable pub stepAnswer : ℕ → List ℕ → ℕ → ℕ → ℕ → Answer
+stepAnswer limit b d q a = asks (tableQuestions limit b ++ stepQuestions b d q a) (stepFigures (monitorOf b) d q a)
+
+-- a trace asks 1 to 8, 10, 12
+abbrev pub traceQuestions : List ℕ → ℕ → List ℕ → List Question
+traceQuestions b d w = question10 d ∷ question12 (symbolsOf b) w ∷ []
 
 -- "A trace answers the reading of the state reached from the start."
 abbrev pub traceFigures : Monitor → ℕ → List ℕ → List ℕ
 traceFigures m d w = reading m d (run (m .automaton) (m .start) w) ∷ []
 
--- a trace asks 1 to 8, 10, 12
-unfoldable pub traceAnswer : List ℕ → ℕ → List ℕ → Answer
-traceAnswer b d w =
-    asks (tableQuestions stateLimit b ++ (question10 d ∷ question12 (symbolsOf b) w ∷ [])) (traceFigures (monitorOf b) d w)
+unfoldable pub traceAnswer : ℕ → List ℕ → ℕ → List ℕ → Answer
+traceAnswer limit b d w = asks (tableQuestions limit b ++ traceQuestions b d w) (traceFigures (monitorOf b) d w)
 
 -- 01's numbers of the two answers
 abbrev pub stepped : Stepped → Answer

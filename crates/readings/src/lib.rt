@@ -8,7 +8,7 @@ ghost use lib.Dec.{eqb};
 ghost use lib.ListN.{length};
 ghost use Rattle.theory.specs.Automaton.{run};
 ghost use Rattle.theory.specs.Answer.{Answer};
-ghost use Rattle.theory.specs.Monitor.{reading};
+ghost use Rattle.theory.specs.Monitor.{reading, stateLimit};
 ghost use Rattle.monitor.specs.Format.{Rows, Table, automatonOf, tableOf};
 ghost use Rattle.monitor.specs.Questions.{firstNotBelow};
 ghost use Rattle.readings.specs.Readings.{stepFigures, stepAnswer, stepped, traceFigures, traceAnswer, traced};
@@ -21,7 +21,7 @@ pub enum Stepped {
 
 // What is read after a trace.
 pub enum Traced {
-    Reads(usize),
+    Reads { reading: usize },
     Refused(Refusal),
 }
 
@@ -37,7 +37,7 @@ fn is_reading(domain: usize) -> bool
 
 // What state q reads.
 fn read(marks: &[u8], nexts: &[u8], n: usize, k: usize, domain: usize, q: usize) -> usize
-    requires { ⌜ Rows n k (now nexts) × (length (now marks) ≡ n) × (q < n) ⌝ }
+    requires { ⌜ Rows stateLimit n k (now nexts) × (length (now marks) ≡ n) × (q < n) ⌝ }
     ensures { λ r. ⌜ ((s : ℕ) → r ≡ reading (tableOf n k s (now (marks .entry)) (now (nexts .entry))) domain q) ⌝ }
 {
     if domain == 3 {
@@ -48,7 +48,7 @@ fn read(marks: &[u8], nexts: &[u8], n: usize, k: usize, domain: usize, q: usize)
 
 // The state that the symbols lead to from start.
 fn state_after(nexts: &[u8], n: usize, k: usize, start: usize, symbols: &[u8]) -> usize
-    requires { ⌜ Rows n k (now nexts) × (start < n) × (firstNotBelow k (now symbols) ≡ length (now symbols)) ⌝ }
+    requires { ⌜ Rows stateLimit n k (now nexts) × (start < n) × (firstNotBelow k (now symbols) ≡ length (now symbols)) ⌝ }
     ensures { λ r. ⌜ (r ≡ run (automatonOf n k (now (nexts .entry))) start (now (symbols .entry))) × (r < n) ⌝ }
 {
     let mut q = start;
@@ -70,7 +70,7 @@ fn step_table(
     state: usize,
     symbol: usize,
 ) -> Stepped
-    requires { ⌜ Rows n k (now nexts) × (length (now marks) ≡ n) × (state < n) × (symbol < k) ⌝ }
+    requires { ⌜ Rows stateLimit n k (now nexts) × (length (now marks) ≡ n) × (state < n) × (symbol < k) ⌝ }
     ensures { λ r. ⌜ ((s : ℕ) → stepped r ≡ Answer.answered (stepFigures (tableOf n k s (now (marks .entry)) (now (nexts .entry))) domain state symbol)) ⌝ }
 {
     let next = monitor::successor(nexts, n, k, state, symbol);
@@ -82,7 +82,7 @@ fn step_table(
 
 // The step from a state under a symbol, read by marks (domain 3) or by classes (domain 6).
 pub fn step(body: &[u8], domain: usize, state: usize, symbol: usize) -> Stepped
-    ensures { λ r. ⌜ stepped r ≡ stepAnswer (now (body .entry)) domain state symbol ⌝ }
+    ensures { λ r. ⌜ stepped r ≡ stepAnswer stateLimit (now (body .entry)) domain state symbol ⌝ }
 {
     match monitor::judge(body) {
         Judgement::Refused(r) => {
@@ -125,16 +125,18 @@ fn trace_table(
     domain: usize,
     symbols: &[u8],
 ) -> Traced
-    requires { ⌜ Table n k start (now marks) (now nexts) × (firstNotBelow k (now symbols) ≡ length (now symbols)) ⌝ }
+    requires { ⌜ Table stateLimit n k start (now marks) (now nexts) × (firstNotBelow k (now symbols) ≡ length (now symbols)) ⌝ }
     ensures { λ r. ⌜ traced r ≡ Answer.answered (traceFigures (tableOf n k start (now (marks .entry)) (now (nexts .entry))) domain (now (symbols .entry))) ⌝ }
 {
     let q = state_after(nexts, n, k, start, symbols);
-    Traced::Reads(read(marks, nexts, n, k, domain, q))
+    Traced::Reads {
+        reading: read(marks, nexts, n, k, domain, q),
+    }
 }
 
 // The reading after a trace of any length, by marks (domain 3) or by classes (domain 6).
 pub fn trace(body: &[u8], domain: usize, symbols: &[u8]) -> Traced
-    ensures { λ r. ⌜ traced r ≡ traceAnswer (now (body .entry)) domain (now (symbols .entry)) ⌝ }
+    ensures { λ r. ⌜ traced r ≡ traceAnswer stateLimit (now (body .entry)) domain (now (symbols .entry)) ⌝ }
 {
     match monitor::judge(body) {
         Judgement::Refused(r) => {

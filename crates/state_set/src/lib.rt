@@ -4,7 +4,7 @@ ghost use mathlib.Core.Path.{_≡_};
 ghost use mathlib.Core.Bool.{false, not, _&&_, _||_};
 ghost use Prim.Native.Nat.{ℕ};
 ghost use lib.Dec.{eqb, ltb};
-ghost use Rattle.theory.specs.Search.{count, first};
+ghost use Rattle.theory.specs.Below.{count, first};
 ghost use Rattle.theory.specs.Monitor.{stateLimit};
 ghost use Rattle.state_set.specs.Member.{member};
 

@@ -6,10 +6,10 @@ use Prim.Native.Nat.{ℕ, zero, suc, _≤_, _<_}
 use native.Mathlib.Omega.{arith}
 use lib.Dec.{eqb}
 use borrow.Author.Tests.{eqb-true, eq-eqb}
-use Rattle.theory.specs.Search.{any}
+use Rattle.theory.specs.Below.{any}
 use Rattle.theory.specs.Automaton.{run, Reaches, leads}
 use Rattle.theory.specs.Monitor.{Monitor, WellFormed, Finds, Class, good, bad, positive, negative, neutral, ugly, weak, Monitorability, none, as-start, marked, classFrom, class, reached, uglyReached, monitorability}
-use Rattle.theory.proofs.Search.{clash, not-clash, and-left, and-right, and-both, any-at, any-find}
+use Rattle.theory.proofs.Below.{clash, not-clash, and-left, and-right, and-both, any-at, any-find}
 use Rattle.theory.proofs.Reach.{run-in, reaches-hits, leads-sound, leads-complete, reached-sound, reached-complete}
 
 module _ {limit : ℕ} {m : Monitor} (w : WellFormed limit m) where
@@ -65,7 +65,7 @@ module _ {limit : ℕ} {m : Monitor} (w : WellFormed limit m) where
 
   -- ---- monitorability
 
-  reached-in : (q : ℕ) → Reaches (m .automaton) (m .start) q → q < m .automaton .states
+  pub reached-in : (q : ℕ) → Reaches (m .automaton) (m .start) q → q < m .automaton .states
   reached-in q r = subst (λ (p : ℕ). p < m .automaton .states) (r .arrives) (run-in (w .closed) (m .start) (r .word) (w .start-in) (r .trace))
 
   ugly-found : any (m .automaton .states) (uglyReached m) ≡ true → (q : ℕ) × Reaches (m .automaton) (m .start) q × Class m q 5

@@ -1,4 +1,4 @@
-pub mod Search
+pub mod Below
 pub mod Scan
 pub mod Values
 pub mod Answer

@@ -9,9 +9,9 @@ use native.Mathlib.Omega.{arith}
 use lib.ListN.{length}
 use lib.Dec.{eqb}
 use borrow.Author.Tests.{eqb-true, eq-eqb}
-use Rattle.theory.specs.Search.{any}
+use Rattle.theory.specs.Below.{any}
 use Rattle.theory.specs.Automaton.{Automaton, Closed, Trace, run, Reaches, within, leads, reachedFrom}
-use Rattle.theory.proofs.Search.{or-cases, or-left, or-right, any-at, any-find, any-same}
+use Rattle.theory.proofs.Below.{or-cases, or-left, or-right, any-at, any-find, any-same}
 use Rattle.theory.proofs.Settle.{settled}
 
 -- ---- runs

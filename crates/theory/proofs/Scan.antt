@@ -6,8 +6,8 @@ use Prim.Native.Nat.{ℕ, _+_, _*_, _≤_, _<_}
 use native.Mathlib.Nat.{le-refl, zero-mul, suc-mul, mul-le-mul-right}
 use native.Mathlib.Numerals.{add-one}
 use native.Mathlib.Omega.{arith}
-use Rattle.theory.specs.Search.{first}
-use Rattle.theory.proofs.Search.{lt-or-le, first-is, first-ge, first-below, first-here}
+use Rattle.theory.specs.Below.{first}
+use Rattle.theory.proofs.Below.{lt-or-le, first-is, first-ge, first-below, first-here}
 
 -- of the c numbers from a on, those before i fail the test
 pub record Passed (f : ℕ → Bool) (a c i : ℕ) : Type 0 where

@@ -6,8 +6,8 @@ use Prim.Native.Nat.{ℕ, zero, suc, _+_, _<_}
 use native.Mathlib.Nat.{add-zero, add-suc}
 use native.Mathlib.Omega.{arith}
 use borrow.Author.Tests.{not-true}
-use Rattle.theory.specs.Search.{any, count}
-use Rattle.theory.proofs.Search.{clash, both-ways, and-left, and-right, and-both, any-at, any-find, count-le, count-more}
+use Rattle.theory.specs.Below.{any, count}
+use Rattle.theory.proofs.Below.{clash, is-true, both-ways, and-left, and-right, and-both, any-at, any-find, count-le, count-more}
 
 module _ (n : ℕ) (grown : ℕ → ℕ → Bool) where
   -- the round after r adds nothing
@@ -27,11 +27,7 @@ module _ (n : ℕ) (grown : ℕ → ℕ → Bool) where
             let f = any-find n (added r) e in
             let p = f .0 in
             inr (count-more n (grown r) (grown (suc r)) (more r) p (f .1) (not-true (grown r p) (and-right (grown (suc r) p) (not (grown r p)) (f .2))) (and-left (grown (suc r) p) (not (grown r p)) (f .2)))
-        go false e = inl (λ p l. both-ways (λ t. old p l t (grown r p) refl) (more r p l))
-          where
-            old : (p : ℕ) → p < n → grown (suc r) p ≡ true → (b : Bool) → grown r p ≡ b → grown r p ≡ true
-            old p l t true h = h
-            old p l t false h = absurd (clash (any-at n (added r) p l (and-both (grown (suc r) p) (not (grown r p)) t (ap not h))) e)
+        go false e = inl (λ p l. both-ways (λ t. is-true (λ h. clash (any-at n (added r) p l (and-both (grown (suc r) p) (not (grown r p)) t (ap not h))) e)) (more r p l))
 
     still-or-many : (r : ℕ) → Still r ⊎ (r < count n (grown (suc r)))
     still-or-many zero = ⊎-elim (λ s. inl s) (λ l. inr (omega (arith, l))) (still-or-more zero)

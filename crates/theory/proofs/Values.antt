@@ -7,7 +7,7 @@ use native.Mathlib.Numerals.{add-one}
 use native.Mathlib.Omega.{arith}
 use lib.ListN.{length, drop, set, length-append, length-drop}
 use lib.Seq.{drop-cons, set-at}
-use Rattle.theory.specs.Search.{values}
+use Rattle.theory.specs.Below.{values}
 
 pub length-values : (n : ℕ) (f : ℕ → ℕ) → length (values n f) ≡ n
 unfolding values

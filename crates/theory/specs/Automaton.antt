@@ -4,7 +4,7 @@ use mathlib.Core.Bool.{Bool, _||_}
 use mathlib.Core.List.{List, [], _∷_}
 use Prim.Native.Nat.{ℕ, zero, suc, _<_}
 use lib.Dec.{eqb}
-use Rattle.theory.specs.Search.{any}
+use Rattle.theory.specs.Below.{any}
 
 -- n states, k symbols (01's messages) and the successor (next state) of a state under a symbol; all count from 0
 pub record Automaton : Type 0 where
@@ -37,7 +37,7 @@ unfoldable pub within : Automaton → (ℕ → Bool) → ℕ → ℕ → Bool
 within g f zero q = f q
 within g f (suc r) q = f q || any (g .symbols) (λ a. within g f r (g .next q a))
 
--- some trace does: with n states, n symbols are enough (proofs/Reach.antt)
+-- some trace of any length leads from q to a state that passes the test: with n states, n symbols are enough (proofs/Reach.antt)
 unfoldable pub leads : Automaton → (ℕ → Bool) → ℕ → Bool
 leads g f q = within g f (g .states) q
 

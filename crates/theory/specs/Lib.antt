@@ -1,4 +1,4 @@
-pub mod Search
+pub mod Below
 pub mod Automaton
 pub mod Monitor
 pub mod Answer

@@ -3,9 +3,11 @@
 -- proofs/Exact.antt shows that the two say the same.
 use mathlib.Core.Path.{_≡_}
 use mathlib.Core.Bool.{Bool, true, false, cond, _&&_}
+use mathlib.Core.List.{[], _∷_}
 use Prim.Native.Nat.{ℕ, zero, suc, _≤_, _<_}
 use lib.Dec.{eqb}
-use Rattle.theory.specs.Search.{any, count}
+use lib.ListN.{getD}
+use Rattle.theory.specs.Below.{any, count}
 use Rattle.theory.specs.Automaton.{Automaton, Closed, Reaches, leads, reachedFrom}
 
 -- an automaton with a start and a verdict (01's mark) at each state: 0 not yet, 1 true, 2 false
@@ -48,12 +50,7 @@ pub data Class (m : Monitor) (q : ℕ) : ℕ → Type 0 where
 
 -- "good and positive give pos, bad and negative neg, neutral both, ugly none (definition 10); as numbers these four are 0 to 3"
 abbrev pub weak : ℕ → ℕ
-weak zero = 0
-weak (suc zero) = 1
-weak (suc (suc zero)) = 0
-weak (suc (suc (suc zero))) = 1
-weak (suc (suc (suc (suc zero)))) = 2
-weak (suc (suc (suc (suc (suc c))))) = 3
+weak c = getD (0 ∷ 1 ∷ 0 ∷ 1 ∷ 2 ∷ 3 ∷ []) c 3
 
 -- "A table is none if any state reachable from the start is ugly (lemma 3), else as its start."
 pub data Monitorability (m : Monitor) : ℕ → Type 0 where

@@ -1,6 +1,7 @@
 -- `classify` meets its contract: each return has its law in Entry.
 use borrow.Author.Needs.{needs}
-use Rattle.monitor.proofs.Accepted.{judged-accepted, marks-fit, table-lent, monitor-lent}
+use Rattle.theory.specs.Monitor.{stateLimit}
+use Rattle.monitor.proofs.Accepted.{judged-accepted, table-lent, monitor-lent}
 use Rattle.classes.proofs.Entry.{classify-judged, classify-short, classify-fits}
 use Rattle.classes.proofs.classify.Statement.{statement}
 use Rattle.classes.proofs.classify.Tie as tie
@@ -12,7 +13,7 @@ enum-known-r : tie.Need-enum-known-r
 enum-known-r c = search needs
 
 returns : tie.Need-returns
-returns c = classify-judged (c .before .before .before .before .before .before .args .body .now) (c .before .before .before .before .before .before .args .area .now) (c .before .before .before .judge .ensures) (c .before .r .given .1)
+returns c = classify-judged stateLimit (c .before .before .before .before .before .before .args .body .now) (c .before .before .before .before .before .before .args .area .now) (c .before .before .before .judge .ensures) (c .before .r .given .1)
 
 enum-told : tie.Need-enum-told
 enum-told c = search needs
@@ -23,13 +24,13 @@ byte-at-requires c κs = search needs
 returns-2 : tie.Need-returns-2
 returns-2 c =
     let s = c .before .before .before .before .before .before .before in
-    classify-short (s .args .body .now) (s .args .area .now) (judged-accepted (s .args .body .now) (c .before .before .before .before .judge .ensures) (c .before .before .enum-told .given .1)) (c .before .byte-at .ensures) (c .if1 .taken)
+    classify-short stateLimit (s .args .body .now) (s .args .area .now) (judged-accepted stateLimit (s .args .body .now) (c .before .before .before .before .judge .ensures) (c .before .before .enum-told .given .1)) (c .before .byte-at .ensures .0) (c .if1 .taken)
 
 drawn-marks-requires : tie.Need-drawn-marks-requires
-drawn-marks-requires c κs = (let b = c .before .before .before .before .before .before .before .args .body .now in marks-fit b (judged-accepted b (c .before .before .before .before .judge .ensures) (c .before .before .enum-told .given .1)))
+drawn-marks-requires c κs = search needs
 
 next-states-requires : tie.Need-next-states-requires
-next-states-requires c κs = (let b = c .before .before .before .before .before .before .before .before .args .body .now in marks-fit b (judged-accepted b (c .before .before .before .before .before .judge .ensures) (c .before .before .before .enum-told .given .1)))
+next-states-requires c κs = search needs
 
 byte-at-requires-2 : tie.Need-byte-at-requires-2
 byte-at-requires-2 c κs = search needs
@@ -40,8 +41,8 @@ byte-at-requires-3 c κs = search needs
 classify-table-requires : tie.Need-classify-table-requires
 classify-table-requires c κs =
     let b = c .before .before .before .before .before .before .before .before .before .before .before .before .args .body .now in (
-      table-lent b (c .before .before .before .before .before .before .byte-at .ensures) (c .before .before .byte-at2 .ensures) (c .before .byte-at3 .ensures) (c .before .before .before .before .drawn-marks .ensures) (c .before .before .before .next-states .ensures)
-          (judged-accepted b (c .before .before .before .before .before .before .before .before .before .judge .ensures) (c .before .before .before .before .before .before .before .enum-told .given .1)),
+      table-lent b (c .before .before .before .before .before .before .byte-at .ensures .0) (c .before .before .byte-at2 .ensures .0) (c .before .byte-at3 .ensures .0) (c .before .before .before .before .drawn-marks .ensures) (c .before .before .before .next-states .ensures)
+          stateLimit (judged-accepted stateLimit b (c .before .before .before .before .before .before .before .before .before .judge .ensures) (c .before .before .before .before .before .before .before .enum-told .given .1)),
       c .before .before .before .before .before .if1 .left,
     )
 
@@ -53,8 +54,8 @@ returns-3 c =
     let s = c .before .before .before .before .before .before .before .before .before .before .before .before .before .before .before in
     let b = s .args .body .now in
     let t = c .before .before .classify-table .ensures in
-    classify-fits b (s .args .area .now) (judged-accepted b (c .before .before .before .before .before .before .before .before .before .before .before .before .judge .ensures) (c .before .before .before .before .before .before .before .before .before .before .enum-told .given .1)) (c .before .before .before .before .before .before .before .before .before .byte-at .ensures) _ (c .before .before .before .before .before .before .before .before .if1 .left)
-    (monitor-lent b (c .before .before .before .before .before .before .before .before .before .byte-at .ensures) (c .before .before .before .before .before .byte-at2 .ensures) (c .before .before .before .before .byte-at3 .ensures) (c .before .before .before .before .before .before .before .drawn-marks .ensures) (c .before .before .before .before .before .before .next-states .ensures)) (t .0) (t .1)
+    classify-fits stateLimit b (s .args .area .now) (judged-accepted stateLimit b (c .before .before .before .before .before .before .before .before .before .before .before .before .judge .ensures) (c .before .before .before .before .before .before .before .before .before .before .enum-told .given .1)) (c .before .before .before .before .before .before .before .before .before .byte-at .ensures .0) _ (c .before .before .before .before .before .before .before .before .if1 .left)
+    (monitor-lent b (c .before .before .before .before .before .before .before .before .before .byte-at .ensures .0) (c .before .before .before .before .before .byte-at2 .ensures .0) (c .before .before .before .before .byte-at3 .ensures .0) (c .before .before .before .before .before .before .before .drawn-marks .ensures) (c .before .before .before .before .before .before .next-states .ensures)) (t .0) (t .1)
 
 pub classify-spec : {M : Type 1} → statement M
 classify-spec =

@@ -5,7 +5,7 @@ use Prim.Native.Nat.{ℕ, _≤_, _-_}
 use native.Mathlib.Nat.{le-trans, le-antisymm, lt-of-lt-of-le}
 use lib.ListN.{length, set}
 use borrow.Author.Needs.{needs}
-use Rattle.theory.specs.Search.{values}
+use Rattle.theory.specs.Below.{values}
 use Rattle.theory.proofs.Values.{filled, length-filled, filled-turn}
 use Rattle.classes.specs.Sets.{classBy}
 use Rattle.classes.proofs.write_classes.Statement.{statement}

@@ -1,5 +1,5 @@
 -- `byte_at` meets its contract.
-use mathlib.Core.Path.{sym}
+use mathlib.Core.Path.{refl, sym}
 use native.Mathlib.Omega.{arith}
 use lib.ListN.{List·getD-eq-default}
 use borrow.Author.Needs.{needs}
@@ -13,10 +13,10 @@ cast-result : tie.Need-cast-result
 cast-result c = omega (arith, c .shared-slice-known .given (c .before .before .args .i))
 
 returns : tie.Need-returns
-returns c = search needs
+returns c = (refl, omega (arith, c .shared-slice-known .given (c .before .before .args .i)))
 
 returns-2 : tie.Need-returns-2
-returns-2 c = sym (List·getD-eq-default (c .before .args .body .now) 0 (c .if1 .left))
+returns-2 c = (sym (List·getD-eq-default (c .before .args .body .now) 0 (c .if1 .left)), search needs)
 
 pub byte-at-spec : {M : Type 1} → statement M
 byte-at-spec = tie.close (tie.spec shared-slice-read-result cast-result returns returns-2)

@@ -4,11 +4,17 @@ use Rattle.monitor.proofs.Body.{marks-lent}
 use Rattle.monitor.proofs.drawn_marks.Statement.{statement}
 use Rattle.monitor.proofs.drawn_marks.Tie as tie
 
+least-requires : tie.Need-least-requires
+least-requires c κs = search needs
+
 byte-at-requires : tie.Need-byte-at-requires
 byte-at-requires c κs = search needs
 
-add-result : tie.Need-add-result
-add-result c = search needs
+add-least : tie.Need-add-least
+add-least c = search needs
+
+least-requires-2 : tie.Need-least-requires-2
+least-requires-2 c κs = search needs
 
 sub-result : tie.Need-sub-result
 sub-result c = search needs
@@ -20,7 +26,17 @@ part-result-end : tie.Need-part-result-end
 part-result-end c = search needs
 
 returns : tie.Need-returns
-returns c = marks-lent (c .before .before .before .args .body .now) (c .before .byte-at .ensures)
+returns c = marks-lent (c .before .before .before .before .before .args .body .now) (c .before .before .byte-at .ensures .0) (c .before .before .before .least .ensures) (c .before .least2 .ensures)
 
 pub drawn-marks-spec : {M : Type 1} → statement M
-drawn-marks-spec = tie.close (tie.spec byte-at-requires add-result sub-result part-result-start part-result-end returns)
+drawn-marks-spec =
+    tie.close
+    (tie.spec
+    least-requires
+    byte-at-requires
+    add-least
+    least-requires-2
+    sub-result
+    part-result-start
+    part-result-end
+    returns)

@@ -29,16 +29,10 @@ cast-k : tie.Need-cast-k
 cast-k c = omega (arith, c .shared-slice-known3 .given 1)
 
 drawn-marks-requires : tie.Need-drawn-marks-requires
-drawn-marks-requires c κs =
-    let s = c .before .before .before in
-    let h = passed-head stateLimit (s .args .body .now) (s .pre) in
-    omega (arith, h .exact)
+drawn-marks-requires c κs = search needs
 
 next-states-requires : tie.Need-next-states-requires
-next-states-requires c κs =
-    let s = c .before .before .before .before in
-    let h = passed-head stateLimit (s .args .body .now) (s .pre) in
-    omega (arith, h .exact)
+next-states-requires c κs = search needs
 
 first-not-below-requires : tie.Need-first-not-below-requires
 first-not-below-requires c κs = search needs
@@ -86,8 +80,8 @@ returns-2 c =
     let b = c .before .before .before .before .before .before .before .before .before .before .before .args .body .now in
     c .refused2 .ensures ∙ sym (wrong-next b (c .before .before .before .before .before .before .before .drawn-marks .ensures) (c .before .before .before .before .before .before .next-states .ensures) (c .before .before .before .before .before .first-not-below .ensures) (c .before .before .before .before .if1 .left) (c .before .before .first-not-below2 .ensures) (c .before .if2 .taken))
 
-first-leaving-requires : tie.Need-first-leaving-requires
-first-leaving-requires c κs =
+first-revoking-requires : tie.Need-first-revoking-requires
+first-revoking-requires c κs =
     let s = c .before .before .before .before .before .before .before .before .before .before in
     let b = s .args .body .now in
     rows-lent b (c .before .before .before .before .before .before .drawn-marks .ensures) (c .before .before .before .before .before .next-states .ensures) (c .before .before .before .before .first-not-below .ensures) (c .before .before .before .if1 .left) (c .before .first-not-below2 .ensures) (c .if2 .left) (passed-head stateLimit b (s .pre))
@@ -110,12 +104,12 @@ refused-requires-3 c κs = search needs
 returns-3 : tie.Need-returns-3
 returns-3 c =
     let b = c .before .before .before .before .before .before .before .before .before .before .before .before .before .args .body .now in
-    c .refused3 .ensures ∙ sym (wrong-verdict b (c .before .before .before .before .before .before .before .before .before .drawn-marks .ensures) (c .before .before .before .before .before .before .before .before .next-states .ensures) (c .before .before .before .before .before .before .before .first-not-below .ensures) (c .before .before .before .before .before .before .if1 .left) (c .before .before .before .before .first-not-below2 .ensures) (c .before .before .before .if2 .left) (c .before .before .first-leaving .ensures) (c .before .if3 .taken))
+    c .refused3 .ensures ∙ sym (wrong-verdict b (c .before .before .before .before .before .before .before .before .before .drawn-marks .ensures) (c .before .before .before .before .before .before .before .before .next-states .ensures) (c .before .before .before .before .before .before .before .first-not-below .ensures) (c .before .before .before .before .before .before .if1 .left) (c .before .before .before .before .first-not-below2 .ensures) (c .before .before .before .if2 .left) (c .before .before .first-revoking .ensures) (c .before .if3 .taken))
 
 returns-4 : tie.Need-returns-4
 returns-4 c =
     let b = c .before .before .before .before .before .before .before .before .before .before .before .before .args .body .now in
-    sym (rows-pass b (c .before .before .before .before .before .before .before .before .drawn-marks .ensures) (c .before .before .before .before .before .before .before .next-states .ensures) (c .before .before .before .before .before .before .first-not-below .ensures) (c .before .before .before .before .before .if1 .left) (c .before .before .before .first-not-below2 .ensures) (c .before .before .if2 .left) (c .before .first-leaving .ensures) (c .if3 .left))
+    sym (rows-pass b (c .before .before .before .before .before .before .before .before .drawn-marks .ensures) (c .before .before .before .before .before .before .before .next-states .ensures) (c .before .before .before .before .before .before .first-not-below .ensures) (c .before .before .before .before .before .if1 .left) (c .before .before .before .first-not-below2 .ensures) (c .before .before .if2 .left) (c .before .first-revoking .ensures) (c .if3 .left))
 
 pub judge-rows-spec : {M : Type 1} → statement M
 judge-rows-spec =
@@ -137,7 +131,7 @@ judge-rows-spec =
     add-refused-3
     refused-requires-2
     returns-2
-    first-leaving-requires
+    first-revoking-requires
     add-refused-4
     add-refused-5
     refused-requires-3

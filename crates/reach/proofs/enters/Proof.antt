@@ -3,7 +3,7 @@ use mathlib.Core.Path.{_≡_, _∙_}
 use mathlib.Core.Bool.{false}
 use Prim.Native.Nat.{_≤_, _-_}
 use borrow.Author.Needs.{needs}
-use Rattle.theory.specs.Search.{any}
+use Rattle.theory.specs.Below.{any}
 use Rattle.state_set.specs.Member.{member}
 use Rattle.monitor.specs.Format.{automatonOf}
 use Rattle.reach.specs.Closure.{leadsInto}

@@ -1,7 +1,7 @@
 -- `reaching` meets its contract: the set grew from the targets by widening, and has more states after each turn.
 use Prim.Native.Nat.{_-_}
 use borrow.Author.Needs.{needs}
-use Rattle.theory.specs.Search.{count}
+use Rattle.theory.specs.Below.{count}
 use Rattle.theory.specs.Monitor.{stateLimit}
 use Rattle.state_set.specs.Member.{member}
 use Rattle.monitor.specs.Format.{automatonOf}

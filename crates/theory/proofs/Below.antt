@@ -8,7 +8,7 @@ use native.Mathlib.Numerals.{add-one}
 use native.Mathlib.Omega.{arith}
 use lib.Dec.{ltb}
 use borrow.Author.Tests.{ltb-true, ltb-false, lt-ltb}
-use Rattle.theory.specs.Search.{any, count, first}
+use Rattle.theory.specs.Below.{any, count, first}
 
 -- ---- Booleans
 
@@ -18,6 +18,10 @@ clash p q = true≢false (sym p ∙ q)
 pub not-clash : {b : Bool} → (b ≡ true → ⊥) → b ≡ false
 not-clash {b = true} n = absurd (n refl)
 not-clash {b = false} n = refl
+
+pub is-true : {b : Bool} → (b ≡ false → ⊥) → b ≡ true
+is-true {b = true} n = refl
+is-true {b = false} n = absurd (n refl)
 
 -- two tests that are true together are equal
 pub both-ways : {a b : Bool} → (a ≡ true → b ≡ true) → (b ≡ true → a ≡ true) → a ≡ b
@@ -72,12 +76,6 @@ any-find (suc n) f e = go (or-cases (f n) (any n f) e) (any-find n f)
     go : (f n ≡ true) ⊎ (any n f ≡ true) → (any n f ≡ true → (i : ℕ) × (i < n) × (f i ≡ true)) → (i : ℕ) × (i < suc n) × (f i ≡ true)
     go (inl here) below = (n, le-refl (suc n), here)
     go (inr there) below = let b = below there in (b .0, omega (arith, b .1), b .2)
-
-pub any-none : (n : ℕ) (f : ℕ → Bool) → any n f ≡ false → (i : ℕ) → i < n → f i ≡ false
-any-none n f e i l = not-clash (λ t. clash (any-at n f i l t) e)
-
-pub none-any : (n : ℕ) (f : ℕ → Bool) → ((i : ℕ) → i < n → f i ≡ false) → any n f ≡ false
-none-any n f h = not-clash (λ t. (let b = any-find n f t in clash (b .2) (h (b .0) (b .1))))
 
 pub any-same : (n : ℕ) (f g : ℕ → Bool) → ((i : ℕ) → i < n → f i ≡ g i) → any n f ≡ any n g
 unfolding any
@@ -145,11 +143,7 @@ count-more (suc n) f g h x l e t =
 
 -- a wider test of the same count passes nothing new
 pub count-full : (n : ℕ) (f g : ℕ → Bool) → ((i : ℕ) → i < n → f i ≡ true → g i ≡ true) → count n g ≡ count n f → (i : ℕ) → i < n → g i ≡ f i
-count-full n f g h e i l = both-ways (λ t. not-missing t (f i) refl) (h i l)
-  where
-    not-missing : g i ≡ true → (b : Bool) → f i ≡ b → f i ≡ true
-    not-missing t true p = p
-    not-missing t false p = absurd (omega (arith, count-more n f g h i l p t, e))
+count-full n f g h e i l = both-ways (λ t. is-true (λ p. omega (arith, count-more n f g h i l p t, e))) (h i l)
 
 -- numbers that fail the test do not count
 pub count-short : (m n : ℕ) (f : ℕ → Bool) → m ≤ n → ((i : ℕ) → m ≤ i → i < n → f i ≡ false) → count n f ≡ count m f
@@ -160,12 +154,6 @@ count-short m (suc n) f l h =
     (λ (e : m ≡ suc n). ap (λ (x : ℕ). count x f) (sym e))
     (λ s. rw (h n (le-of-suc-le-suc s) (le-refl (suc n))) (count-short m n f (le-of-suc-le-suc s) (λ i a b. h i a (omega (arith, b)))))
     (eq-or-lt-of-le l)
-
-pub count-none : (n : ℕ) (f : ℕ → Bool) → ((i : ℕ) → i < n → f i ≡ false) → count n f ≡ 0
-count-none n f h = count-short 0 n f (omega arith) (λ i _ l. h i l) ∙ nothing
-  where
-    nothing : count 0 f ≡ 0
-    nothing = unfold count in refl
 
 pub count-any : (n : ℕ) (f : ℕ → Bool) → ltb 0 (count n f) ≡ any n f
 unfolding count any
@@ -250,3 +238,7 @@ first-from f g h a (suc c) = rw (h a, first-from f g h (suc a) c) (go (g a))
     go : (b : Bool) → cond b (suc a) (suc (first g (suc a) c)) ≡ suc (cond b a (first g (suc a) c))
     go true = refl
     go false = refl
+
+-- a scan from 0 that passed all c numbers
+pub first-whole : (f : ℕ → Bool) (c : ℕ) {r : ℕ} → r ≡ first f 0 c → c ≤ r → first f 0 c ≡ c
+first-whole f c e l = omega (arith, first-le f 0 c)

@@ -1,15 +1,15 @@
--- `first_leaving_row` meets its contract: the next states of q before `i` keep the verdict of q.
+-- `first_revoking_row` meets its contract: the next states of q before `i` keep the verdict of q.
 use Prim.Native.Nat.{_*_, _-_}
 use native.Mathlib.Omega.{arith}
 use Rattle.theory.proofs.Scan.{Passed, scan-begins, scan-goes-on, scan-finds, scan-ends}
-use Rattle.monitor.specs.Questions.{leaves}
+use Rattle.monitor.specs.Questions.{revokes}
 use Rattle.monitor.proofs.Rows.{rows-most, row-end}
-use Rattle.monitor.proofs.Leaving.{unmarked-row, same-stays, other-leaves}
-use Rattle.monitor.proofs.first_leaving_row.Statement.{statement}
-use Rattle.monitor.proofs.first_leaving_row.Tie as tie
+use Rattle.monitor.proofs.Revoking.{unmarked-row, same-stays, other-revokes}
+use Rattle.monitor.proofs.first_revoking_row.Statement.{statement}
+use Rattle.monitor.proofs.first_revoking_row.Tie as tie
 
 abbrev Inv-loop : tie.InvT-loop
-Inv-loop marks nexts k q end mark i₀ i = Passed (leaves marks nexts k) (q * k) k i
+Inv-loop marks nexts k q end mark i₀ i = Passed (revokes marks nexts k) (q * k) k i
 
 abbrev μ-loop : tie.MeasureT-loop
 μ-loop marks nexts k q end mark i₀ i = end - i
@@ -53,7 +53,7 @@ returns-2 : tie.Need-returns-2 Inv-loop μ-loop
 returns-2 c =
     let g = c .before .before .before .before .before .before .before .args in
     let v = c .before .before .before .before .loop .inv in
-    scan-finds v (other-leaves (g .marks .now) (g .nexts .now) _ _ (v .from) (c .before .before .before .loop-test .taken) (c .before .before .before .before .before .if1 .left) (c .if2 .taken))
+    scan-finds v (other-revokes (g .marks .now) (g .nexts .now) _ _ (v .from) (c .before .before .before .loop-test .taken) (c .before .before .before .before .before .if1 .left) (c .if2 .taken))
 
 add-i : tie.Need-add-i Inv-loop μ-loop
 add-i c =
@@ -73,8 +73,8 @@ loop-again c =
 returns-3 : tie.Need-returns-3 Inv-loop μ-loop
 returns-3 c = scan-ends (c .before .loop .inv) (c .loop-test .left)
 
-pub first-leaving-row-spec : {M : Type 1} → statement M
-first-leaving-row-spec =
+pub first-revoking-row-spec : {M : Type 1} → statement M
+first-revoking-row-spec =
     tie.close
     (tie.spec
     Inv-loop
