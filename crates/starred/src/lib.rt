@@ -1,0 +1,1 @@
+// The starred facts of the specification: definitions and a theorem, and no code.
