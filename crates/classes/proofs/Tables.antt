@@ -1,18 +1,19 @@
 -- Classes, monitorability and the number of states reached, read off sets of states, are those of the table.
 use mathlib.Core.Path.{_≡_, refl, sym, ap, ap₂, subst, _∙_}
-use mathlib.Core.Bool.{Bool, true, false, cond, not, _&&_, and-false, and-assoc}
+use mathlib.Core.Bool.{Bool, true, false, cond, not, _&&_, _||_, and-false, and-assoc}
 use mathlib.Core.List.{List, [], _∷_, _++_}
+use mathlib.Core.Logic.{⊎-elim}
 use Prim.Native.Nat.{ℕ, zero, suc, _≤_, _<_}
 use native.Mathlib.Omega.{arith}
-use lib.Dec.{eqb}
+use lib.Dec.{eqb, ltb}
 use lib.ListN.{length, drop}
-use borrow.Author.Tests.{eq-eqb, lt-ltb, le-ltb}
+use borrow.Author.Tests.{eq-eqb, lt-ltb, le-ltb, ltb-true}
 use Rattle.theory.specs.Below.{count, values}
-use Rattle.theory.specs.Automaton.{leads, reachedFrom}
+use Rattle.theory.specs.Automaton.{Automaton, Closed, leads, reachedFrom}
 use Rattle.theory.specs.Answer.{answered}
 use Rattle.theory.specs.Monitor.{Monitor, WellFormed, marked, classFrom, class, weak, reached, uglyReached, monitorability, statesReached, stateLimit}
-use Rattle.theory.proofs.Below.{any-same, any-short, count-same, count-short, count-any}
-use Rattle.theory.proofs.Reach.{hits-here, leads-complete}
+use Rattle.theory.proofs.Below.{both-ways, or-cases, or-right, and-left, and-right, and-both, any-same, any-short, count-same, count-short, count-any}
+use Rattle.theory.proofs.Reach.{hits-here, leads-complete, leads-same}
 use Rattle.theory.proofs.Values.{values-same}
 use Rattle.state_set.specs.declared.StateSet.{StateSet}
 use Rattle.state_set.specs.Member.{member, Exactly}
@@ -30,6 +31,30 @@ exactly-out {n} {f} e q l = e .at q ∙ ap (λ (b : Bool). b && f q) (le-ltb q n
 -- a bound that is equal to another
 pub exactly-at : {n m : ℕ} {f : ℕ → Bool} {s : StateSet} → n ≡ m → Exactly n f s → Exactly m f s
 exactly-at {f = f} {s = s} e x = subst (λ (i : ℕ). Exactly i f s) e x
+
+-- what reaches the states that pass a test
+pub reaching-is : {g : Automaton} {f : ℕ → Bool} {s r : StateSet} → Closed g → Exactly (g .states) f s
+    → ((p : ℕ) → member r p ≡ (member s p || (ltb p (g .states) && leads g (member s) p))) → Exactly (g .states) (leads g f) r
+reaching-is {g} {f} {s} {r} c x e = record { at = λ p. e p ∙ both-ways (to p) (from p) }
+  where
+    same : (p : ℕ) → p < g .states → leads g (member s) p ≡ leads g f p
+    same = leads-same c (member s) f (exactly-in x)
+
+    to : (p : ℕ) → (member s p || (ltb p (g .states) && leads g (member s) p)) ≡ true → (ltb p (g .states) && leads g f p) ≡ true
+    to p t =
+        ⊎-elim
+        (λ i. (let h = sym (x .at p) ∙ i in
+        let l = ltb-true p (g .states) (and-left (ltb p (g .states)) (f p) h) in
+        and-both (ltb p (g .states)) (leads g f p) (lt-ltb p (g .states) l) (leads-complete g f c p l (hits-here g f p (and-right (ltb p (g .states)) (f p) h)))))
+        (λ i. (let l = and-left (ltb p (g .states)) (leads g (member s) p) i in
+        and-both (ltb p (g .states)) (leads g f p) l (sym (same p (ltb-true p (g .states) l)) ∙ and-right (ltb p (g .states)) (leads g (member s) p) i)))
+        (or-cases (member s p) (ltb p (g .states) && leads g (member s) p) t)
+
+    from : (p : ℕ) → (ltb p (g .states) && leads g f p) ≡ true → (member s p || (ltb p (g .states) && leads g (member s) p)) ≡ true
+    from p t =
+        let l = and-left (ltb p (g .states)) (leads g f p) t in
+        or-right (member s p) (ltb p (g .states) && leads g (member s) p)
+        (and-both (ltb p (g .states)) (leads g (member s) p) l (same p (ltb-true p (g .states) l) ∙ and-right (ltb p (g .states)) (leads g f p) t))
 
 -- a state is ugly where neither true nor false can be reached from it, its own verdict included
 ugly-class : {limit : ℕ} {m : Monitor} → WellFormed limit m → (q : ℕ) → q < m .automaton .states

@@ -146,27 +146,20 @@ widening-turn {g} {f} {wide} wider w e = record {
   inside = λ q t. ⊎-elim (w .inside q) (λ l. inr l) (spread-adds g wide (g .states) q (sym (e q) ∙ t) .1);
 }
 
--- with nothing added, the test passes the states from which some trace leads to a state that f passes
-pub widening-last : {g : Automaton} {f wide : ℕ → Bool} (t : ℕ → Bool) → Closed g → Widening g f wide → ((p : ℕ) → p < g .states → spread g wide (g .states) p ≡ wide p)
-    → ((q : ℕ) → f q ≡ (ltb q (g .states) && t q)) → (q : ℕ) → wide q ≡ (ltb q (g .states) && leads g t q)
+-- with nothing added, the test passes what f passes, and the states from which some trace leads to a state that f passes
+pub widening-last : {g : Automaton} {f wide : ℕ → Bool} → Closed g → Widening g f wide → ((p : ℕ) → p < g .states → spread g wide (g .states) p ≡ wide p)
+    → (q : ℕ) → wide q ≡ (f q || (ltb q (g .states) && leads g f q))
 unfolding Trace run
-widening-last {g} {f} {wide} t c w full same q =
+widening-last {g} {f} {wide} c w full q =
     both-ways
-    (λ e. (let l = ⊎-elim below (λ l. l) (w .inside q e) in
-    and-both (ltb q (g .states)) (leads g t q) (lt-ltb q (g .states) l) (leads-complete g t c q l (weaker (w .sound q e)))))
-    (λ e. (let h = leads-sound g t q (and-right (ltb q (g .states)) (leads g t q) e) in
-    back q (h .word) (ltb-true q (g .states) (and-left (ltb q (g .states)) (leads g t q) e)) (h .trace) (h .passes)))
+    (λ e. ⊎-elim (or-left (f q) (ltb q (g .states) && leads g f q)) (λ l. or-right (f q) (ltb q (g .states) && leads g f q) (and-both (ltb q (g .states)) (leads g f q) (lt-ltb q (g .states) l) (leads-complete g f c q l (w .sound q e)))) (w .inside q e))
+    (λ e. ⊎-elim (w .keeps q) reaches (or-cases (f q) (ltb q (g .states) && leads g f q) e))
   where
-    below : {p : ℕ} → f p ≡ true → p < g .states
-    below {p} e = ltb-true p (g .states) (and-left (ltb p (g .states)) (t p) (sym (same p) ∙ e))
-
-    weaker : {p : ℕ} → Hits g f p → Hits g t p
-    weaker {p} h = record {
-      word = h .word;
-      trace = h .trace;
-      passes = and-right (ltb (run g p (h .word)) (g .states)) (t (run g p (h .word))) (sym (same (run g p (h .word))) ∙ h .passes);
-    }
-
-    back : (p : ℕ) (v : List ℕ) → p < g .states → Trace g v → t (run g p v) ≡ true → wide p ≡ true
-    back p [] l h e = w .keeps p (same p ∙ and-both (ltb p (g .states)) (t p) (lt-ltb p (g .states) l) e)
+    back : (p : ℕ) (v : List ℕ) → p < g .states → Trace g v → f (run g p v) ≡ true → wide p ≡ true
+    back p [] l h e = w .keeps p e
     back p (a ∷ v) l h e = spread-full g wide (g .states) full p a l (h .0) (back (g .next p a) v (c .next-in p a l (h .0)) (h .1) e)
+
+    reaches : (ltb q (g .states) && leads g f q) ≡ true → wide q ≡ true
+    reaches e =
+        let h = leads-sound g f q (and-right (ltb q (g .states)) (leads g f q) e) in
+        back q (h .word) (ltb-true q (g .states) (and-left (ltb q (g .states)) (leads g f q) e)) (h .trace) (h .passes)

@@ -64,7 +64,6 @@ module _ {g : Automaton} {f wide : ℕ → Bool} (w : Widening g f wide) (limit 
   pub widen-less : {a b : ℕ} → a ≡ count limit wider → b ≡ count limit wide → (a ≡ b → ⊥) → limit - count limit wider < limit - count limit wide
   widen-less i j ne = omega (arith, i, j, ne, count-mono limit wide wider (λ p _ t. keeps p t), count-le limit wider)
 
-  pub widen-last : {a b : ℕ} → a ≡ count limit wider → b ≡ count limit wide → a ≡ b → Closed g → (t : ℕ → Bool) → ((p : ℕ) → f p ≡ (ltb p (g .states) && t p))
-      → (p : ℕ) → wide p ≡ (ltb p (g .states) && leads g t p)
-  widen-last i j same c t h =
-      widening-last t c w (λ p l. sym (e p) ∙ count-full limit wide wider (λ p _ t. keeps p t) (sym i ∙ same ∙ j) p (lt-of-lt-of-le l small)) h
+  pub widen-last : {a b : ℕ} → a ≡ count limit wider → b ≡ count limit wide → a ≡ b → Closed g → (p : ℕ) → wide p ≡ (f p || (ltb p (g .states) && leads g f p))
+  widen-last i j same c =
+      widening-last c w (λ p l. sym (e p) ∙ count-full limit wide wider (λ p _ t. keeps p t) (sym i ∙ same ∙ j) p (lt-of-lt-of-le l small))

@@ -1,8 +1,9 @@
 // Which states can be reached from a state, and from which states a set can be reached.
 use state_set::StateSet;
 ghost use mathlib.Core.Path.{_≡_};
-ghost use mathlib.Core.Bool.{Bool};
+ghost use mathlib.Core.Bool.{_&&_, _||_};
 ghost use Prim.Native.Nat.{ℕ, _<_};
+ghost use lib.Dec.{ltb};
 ghost use Rattle.theory.specs.Below.{any};
 ghost use Rattle.theory.specs.Automaton.{leads, reachedFrom};
 ghost use Rattle.theory.specs.Monitor.{stateLimit};
@@ -84,10 +85,10 @@ fn widen_all(nexts: &[u8], n: usize, k: usize, set: StateSet) -> StateSet
     wider
 }
 
-// The states from which some trace leads into the targets: widened until nothing is added.
+// The targets, and the states from which some trace leads into them: widened until nothing is added.
 pub fn reaching(nexts: &[u8], n: usize, k: usize, targets: StateSet) -> StateSet
     requires { ⌜ Rows stateLimit n k (now nexts) ⌝ }
-    ensures { λ r. ⌜ ((f : ℕ → Bool) → Exactly n f targets → Exactly n (leads (automatonOf n k (now (nexts .entry))) f) r) ⌝ }
+    ensures { λ r. ⌜ ((p : ℕ) → member r p ≡ (member targets p || (ltb p n && leads (automatonOf n k (now (nexts .entry))) (member targets) p))) ⌝ }
 {
     let mut set = targets;
     loop {

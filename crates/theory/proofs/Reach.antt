@@ -11,7 +11,7 @@ use lib.Dec.{eqb}
 use borrow.Author.Tests.{eqb-true, eq-eqb}
 use Rattle.theory.specs.Below.{any}
 use Rattle.theory.specs.Automaton.{Automaton, Closed, Trace, run, Reaches, within, leads, reachedFrom}
-use Rattle.theory.proofs.Below.{or-cases, or-left, or-right, any-at, any-find, any-same}
+use Rattle.theory.proofs.Below.{both-ways, or-cases, or-left, or-right, any-at, any-find, any-same}
 use Rattle.theory.proofs.Settle.{settled}
 
 -- ---- runs
@@ -95,6 +95,20 @@ module _ (g : Automaton) (f : ℕ → Bool) where
   leads-complete c q l h =
       sym (settled (g .states) (within g f) (λ r p _. within-more r p) (within-stays c) (length (h .word)) q l)
       ∙ within-complete (g .states + length (h .word)) q (h .word) (omega arith) (h .trace) (h .passes)
+
+-- only the states matter: tests that agree on them lead alike
+pub leads-same : {g : Automaton} → Closed g → (f h : ℕ → Bool) → ((p : ℕ) → p < g .states → f p ≡ h p) → (q : ℕ) → q < g .states → leads g f q ≡ leads g h q
+leads-same {g} c f h e q l =
+    both-ways
+    (λ t. leads-complete g h c q l (over f h e (leads-sound g f q t)))
+    (λ t. leads-complete g f c q l (over h f (λ p s. sym (e p s)) (leads-sound g h q t)))
+  where
+    over : (x y : ℕ → Bool) → ((p : ℕ) → p < g .states → x p ≡ y p) → Hits g x q → Hits g y q
+    over x y s m = record {
+      word = m .word;
+      trace = m .trace;
+      passes = sym (s (run g q (m .word)) (run-in c q (m .word) l (m .trace))) ∙ m .passes;
+    }
 
 -- ---- reaching a state
 

@@ -1,7 +1,7 @@
 -- `outlook_of` meets its contract.
 use borrow.Author.Needs.{needs}
-use Rattle.classes.specs.Sets.{hasMark}
-use Rattle.classes.proofs.Tables.{exactly-at}
+use Rattle.monitor.proofs.Rows.{next-of-rows}
+use Rattle.classes.proofs.Tables.{exactly-at, reaching-is}
 use Rattle.classes.proofs.outlook_of.Statement.{statement}
 use Rattle.classes.proofs.outlook_of.Tie as tie
 
@@ -19,10 +19,10 @@ reaching-requires-2 c κs = search needs
 
 returns : tie.Need-returns
 returns c =
-    let a = c .before .before .before .before .before .before .args in
-    let n = c .before .before .before .before .before .before .pre .1 in (
-      c .before .before .reaching .ensures (hasMark (a .marks .now) 1) (exactly-at n (c .before .before .before .states-marked .ensures)),
-      c .reaching2 .ensures (hasMark (a .marks .now) 2) (exactly-at n (c .before .states-marked2 .ensures)),
+    let s = c .before .before .before .before .before .before in
+    let g = next-of-rows (s .pre .0) in (
+      reaching-is g (exactly-at (s .pre .1) (c .before .before .before .states-marked .ensures)) (c .before .before .reaching .ensures),
+      reaching-is g (exactly-at (s .pre .1) (c .before .states-marked2 .ensures)) (c .reaching2 .ensures),
     )
 
 pub outlook-of-spec : {M : Type 1} → statement M

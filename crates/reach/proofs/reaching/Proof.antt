@@ -35,10 +35,7 @@ returns : tie.Need-returns Inv-loop μ-loop
 returns c =
     let pre = c .before .before .before .before .before .before .pre in
     let wide = c .before .before .before .widen-all in
-    λ f e. record {
-      at = widen-last (c .before .before .before .before .loop .inv) stateLimit (pre .states-most) (member (wide .result)) (wide .ensures)
-          (c .before .before .count .ensures) (c .before .count2 .ensures) (c .if1 .taken) (next-of-rows pre) f (e .at);
-    }
+    widen-last (c .before .before .before .before .loop .inv) stateLimit (pre .states-most) (member (wide .result)) (wide .ensures) (c .before .before .count .ensures) (c .before .count2 .ensures) (c .if1 .taken) (next-of-rows pre)
 
 loop-less : tie.Need-loop-less Inv-loop μ-loop
 loop-less c =

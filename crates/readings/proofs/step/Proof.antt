@@ -2,8 +2,8 @@
 use mathlib.Core.Path.{refl}
 use borrow.Author.Needs.{needs}
 use borrow.Author.Tests.{not-true, not-false}
-use Rattle.monitor.specs.Format.{startOf}
 use Rattle.theory.specs.Monitor.{stateLimit}
+use Rattle.monitor.specs.Format.{startOf}
 use Rattle.monitor.proofs.Accepted.{judged-accepted, table-lent, monitor-lent}
 use Rattle.readings.proofs.Entry.{step-judged, step-no-reading, step-no-state, step-no-symbol, step-moves}
 use Rattle.readings.proofs.step.Statement.{statement}
