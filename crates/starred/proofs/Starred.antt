@@ -21,4 +21,4 @@ classed-by b q c e l m = (e, published stateLimit b e .classes q l c .1 m)
 pub starred-hold : Hold starred
 unfolding judgeAnswer first any within leads class monitorability
 starred-hold =
-    (monitorable-by A 0 refl refl, (monitorable-by B 1 refl refl, (monitorable-by C 2 refl refl, (monitorable-by D 3 refl refl, (classed-by H 0 2 refl (lit< tt) refl, tt)))))
+    (monitorable-by A _ refl refl, (monitorable-by B _ refl refl, (monitorable-by C _ refl refl, (monitorable-by D _ refl refl, (classed-by H 0 _ refl (lit< tt) refl, tt)))))
