@@ -17,10 +17,11 @@ classList m = values (m .automaton .states) (class m)
 abbrev pub classifyQuestions : List ℕ → ℕ → List Question
 classifyQuestions b room = question13 (statesOf b) room ∷ []
 
--- and answer the monitorability and the number of states reached
+-- they answer the monitorability and the number of states reached
 abbrev pub classifyFigures : Monitor → List ℕ
 classifyFigures m = monitorability m ∷ statesReached m ∷ []
 
+-- the answer of the classes
 unfoldable pub classifyAnswer : ℕ → List ℕ → ℕ → Answer
 classifyAnswer limit b room = asks (tableQuestions limit b ++ classifyQuestions b room) (classifyFigures (monitorOf b))
 

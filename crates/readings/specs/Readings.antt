@@ -17,6 +17,7 @@ stepQuestions b d q a = question10 d ∷ question11 (statesOf b) q ∷ question1
 abbrev pub stepFigures : Monitor → ℕ → ℕ → ℕ → List ℕ
 stepFigures m d q a = m .automaton .next q a ∷ reading m d (m .automaton .next q a) ∷ []
 
+-- the answer of a step
 unfoldable pub stepAnswer : ℕ → List ℕ → ℕ → ℕ → ℕ → Answer
 stepAnswer limit b d q a = asks (tableQuestions limit b ++ stepQuestions b d q a) (stepFigures (monitorOf b) d q a)
 
@@ -28,6 +29,7 @@ traceQuestions b d w = question10 d ∷ question12 (symbolsOf b) w ∷ []
 abbrev pub traceFigures : Monitor → ℕ → List ℕ → List ℕ
 traceFigures m d w = reading m d (run (m .automaton) (m .start) w) ∷ []
 
+-- the answer of a trace
 unfoldable pub traceAnswer : ℕ → List ℕ → ℕ → List ℕ → Answer
 traceAnswer limit b d w = asks (tableQuestions limit b ++ traceQuestions b d w) (traceFigures (monitorOf b) d w)
 

@@ -1,6 +1,6 @@
 -- `state_after` meets its contract: the messages not yet read lead on from the state held.
 use mathlib.Core.Path.{_≡_, refl}
-use Prim.Native.Nat.{_≤_, _<_, _-_}
+use Prim.Native.Nat.{_<_, _-_}
 use native.Mathlib.Omega.{arith}
 use lib.ListN.{length, drop}
 use borrow.Author.Needs.{needs}
@@ -12,13 +12,13 @@ use Rattle.readings.proofs.state_after.Statement.{statement}
 use Rattle.readings.proofs.state_after.Tie as tie
 
 abbrev Inv-loop : tie.InvT-loop
-Inv-loop nexts n k start symbols q₀ i₀ q i = (i ≤ length symbols) × (q < n) × (run (automatonOf n k nexts) start symbols ≡ run (automatonOf n k nexts) q (drop i symbols))
+Inv-loop nexts n k start symbols q₀ i₀ q i = (q < n) × (run (automatonOf n k nexts) start symbols ≡ run (automatonOf n k nexts) q (drop i symbols))
 
 abbrev μ-loop : tie.MeasureT-loop
 μ-loop nexts n k start symbols q₀ i₀ q i = length symbols - i
 
 loop-holds : tie.Need-loop-holds Inv-loop μ-loop
-loop-holds c = (search needs, c .before .before .pre .1, refl)
+loop-holds c = (c .before .before .pre .1, refl)
 
 shared-slice-read-successor : tie.Need-shared-slice-read-successor Inv-loop μ-loop
 shared-slice-read-successor c = search needs
@@ -29,7 +29,7 @@ cast-successor c = omega (arith, c .shared-slice-known3 .given (c .before .befor
 successor-requires : tie.Need-successor-requires Inv-loop μ-loop
 successor-requires c κs =
     let start = c .before .before .before .before .before in
-    (start .pre .0, c .before .before .loop .inv .1, all-below (start .args .k) (start .args .symbols .now) (start .pre .2) (c .before .before .loop .i) (c .before .loop-test .taken))
+    (start .pre .0, c .before .before .loop .inv .0, all-below (start .args .k) (start .args .symbols .now) (start .pre .2) (c .before .before .loop .i) (c .before .loop-test .taken))
 
 add-i : tie.Need-add-i Inv-loop μ-loop
 add-i c = search needs
@@ -42,13 +42,13 @@ loop-again c =
     let a = c .before .before .before .before .before .before .args in
     let at = c .before .before .before .loop in
     let s = c .successor .ensures in
-    (search needs, s .1, run-turn (automatonOf (a .n) (a .k) (a .nexts .now)) (a .symbols .now) (at .inv .2) (c .before .before .loop-test .taken) (s .0))
+    (s .1, run-turn (automatonOf (a .n) (a .k) (a .nexts .now)) (a .symbols .now) (at .inv .1) (c .before .before .loop-test .taken) (s .0))
 
 returns : tie.Need-returns Inv-loop μ-loop
 returns c =
     let a = c .before .before .before .before .args in
     let at = c .before .loop in
-    (run-end (automatonOf (a .n) (a .k) (a .nexts .now)) (a .symbols .now) (at .inv .2) (c .loop-test .left), at .inv .1)
+    (run-end (automatonOf (a .n) (a .k) (a .nexts .now)) (a .symbols .now) (at .inv .1) (c .loop-test .left), at .inv .0)
 
 pub state-after-spec : {M : Type 1} → statement M
 state-after-spec =
