@@ -1,7 +1,15 @@
 pub mod Below
+pub mod Lists
+pub mod Bits
 pub mod Scan
 pub mod Values
 pub mod Answer
 pub mod Settle
 pub mod Reach
 pub mod Exact
+pub mod Pairs
+pub mod Series
+pub mod Faults
+pub mod Witness
+pub mod Extent
+pub mod Distance

@@ -3,7 +3,7 @@ use mathlib.Core.Path.{_≡_, refl, sym, ap, _∙_}
 use mathlib.Core.Bool.{Bool, true, _||_}
 use mathlib.Core.List.{List, [], _∷_, _++_}
 use mathlib.Core.Logic.{⊎-elim}
-use Prim.Native.Nat.{ℕ, zero, suc, _+_, _≤_, _<_}
+use Prim.Native.Nat.{ℕ, zero, suc, _+_, _≤_, _<_, zero-le, suc-le-suc}
 use native.Mathlib.Nat.{le-of-suc-le-suc, not-suc-le-zero}
 use native.Mathlib.Omega.{arith}
 use lib.ListN.{length}
@@ -41,25 +41,37 @@ pub record Hits (g : Automaton) (f : ℕ → Bool) (q : ℕ) : Type 0 where
 pub reaches-hits : {g : Automaton} {q p : ℕ} (f : ℕ → Bool) → f p ≡ true → Reaches g q p → Hits g f q
 reaches-hits f e r = record { word = r .word; trace = r .trace; passes = ap f (r .arrives) ∙ e }
 
-pub hits-here : (g : Automaton) (f : ℕ → Bool) (q : ℕ) → f q ≡ true → Hits g f q
+unfoldable pub hits-here : (g : Automaton) (f : ℕ → Bool) (q : ℕ) → f q ≡ true → Hits g f q
 unfolding Trace run
 hits-here g f q e = record { word = []; trace = tt; passes = e }
 
-pub hits-step : (g : Automaton) (f : ℕ → Bool) (q a : ℕ) → a < g .symbols → Hits g f (g .next q a) → Hits g f q
+unfoldable pub hits-step : (g : Automaton) (f : ℕ → Bool) (q a : ℕ) → a < g .symbols → Hits g f (g .next q a) → Hits g f q
 unfolding Trace run
 hits-step g f q a l h = record { word = a ∷ h .word; trace = (l, h .trace); passes = h .passes }
+
+-- the same within r symbols
+pub record HitsWithin (g : Automaton) (f : ℕ → Bool) (r q : ℕ) : Type 0 where
+  pub hits : Hits g f q
+  pub short : length (hits .word) ≤ r
 
 module _ (g : Automaton) (f : ℕ → Bool) where
   -- some symbol leads from q to a state from which r symbols are enough
   abbrev after : ℕ → ℕ → ℕ → Bool
   after r q a = within g f r (g .next q a)
 
-  within-sound : (r q : ℕ) → within g f r q ≡ true → Hits g f q
-  unfolding within
-  within-sound zero q e = hits-here g f q e
+  now : (r q : ℕ) → f q ≡ true → HitsWithin g f r q
+  unfolding hits-here
+  now r q e = record { hits = hits-here g f q e; short = zero-le }
+
+  within-sound : (r q : ℕ) → within g f r q ≡ true → HitsWithin g f r q
+  unfolding within hits-step
+  within-sound zero q e = now zero q e
   within-sound (suc r) q e =
-      ⊎-elim (hits-here g f q)
-      (λ s. (let b = any-find (g .symbols) (after r q) s in hits-step g f q (b .0) (b .1) (within-sound r (g .next q (b .0)) (b .2))))
+      ⊎-elim (now (suc r) q)
+      (λ s.
+      let b = any-find (g .symbols) (after r q) s in
+      let h = within-sound r (g .next q (b .0)) (b .2) in
+      record { hits = hits-step g f q (b .0) (b .1) (h .hits); short = suc-le-suc (h .short) })
       (or-cases (f q) (any (g .symbols) (after r q)) e)
 
   within-complete : (r q : ℕ) (w : List ℕ) → length w ≤ r → Trace g w → f (run g q w) ≡ true → within g f r q ≡ true
@@ -86,9 +98,12 @@ module _ (g : Automaton) (f : ℕ → Bool) where
   within-stays c r s p l =
       ap (λ (b : Bool). f p || b) (any-same (g .symbols) (after (suc r) p) (after r p) (λ a h. s (g .next p a) (c .next-in p a l h)))
 
-  pub leads-sound : (q : ℕ) → leads g f q ≡ true → Hits g f q
+  pub leads-short : (q : ℕ) → leads g f q ≡ true → HitsWithin g f (g .states) q
   unfolding leads
-  leads-sound q e = within-sound (g .states) q e
+  leads-short q e = within-sound (g .states) q e
+
+  pub leads-sound : (q : ℕ) → leads g f q ≡ true → Hits g f q
+  leads-sound q e = leads-short q e .hits
 
   pub leads-complete : Closed g → (q : ℕ) → q < g .states → Hits g f q → leads g f q ≡ true
   unfolding leads

@@ -1,4 +1,9 @@
 pub mod Below
+pub mod Lists
 pub mod Automaton
 pub mod Monitor
 pub mod Answer
+pub mod Pairs
+pub mod Faults
+pub mod Series
+pub mod Distance

@@ -2,7 +2,7 @@
 use native.Mathlib.Omega.{arith}
 use lib.Count.{ones-le}
 use Rattle.state_set.specs.Member.{member}
-use Rattle.state_set.proofs.Bits.{ones-count}
+use Rattle.theory.proofs.Bits.{ones-count}
 use Rattle.state_set.proofs.StateSet.count.Statement.{statement}
 use Rattle.state_set.proofs.StateSet.count.Tie as tie
 

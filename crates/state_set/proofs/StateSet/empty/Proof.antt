@@ -1,6 +1,6 @@
 -- The word 0 has no digit.
 use Rattle.state_set.specs.Member.{member}
-use Rattle.state_set.proofs.Bits.{bit-empty}
+use Rattle.theory.proofs.Bits.{bit-empty}
 use Rattle.state_set.proofs.StateSet.empty.Statement.{statement}
 use Rattle.state_set.proofs.StateSet.empty.Tie as tie
 

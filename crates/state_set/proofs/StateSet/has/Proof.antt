@@ -3,7 +3,7 @@ use mathlib.Core.Path.{sym}
 use native.Mathlib.Omega.{arith}
 use borrow.Author.Needs.{needs}
 use Rattle.state_set.specs.Member.{member}
-use Rattle.state_set.proofs.Bits.{bit-read, bit-high}
+use Rattle.theory.proofs.Bits.{bit-read, bit-high}
 use Rattle.state_set.proofs.StateSet.has.Statement.{statement}
 use Rattle.state_set.proofs.StateSet.has.Tie as tie
 

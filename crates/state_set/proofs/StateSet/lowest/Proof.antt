@@ -2,7 +2,7 @@
 use native.Mathlib.Omega.{arith}
 use lib.Count.{trailing-le}
 use Rattle.state_set.specs.Member.{member}
-use Rattle.state_set.proofs.Bits.{zeros-first}
+use Rattle.theory.proofs.Bits.{zeros-first}
 use Rattle.state_set.proofs.StateSet.lowest.Statement.{statement}
 use Rattle.state_set.proofs.StateSet.lowest.Tie as tie
 

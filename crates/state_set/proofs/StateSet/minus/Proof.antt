@@ -1,7 +1,7 @@
 -- The digits of `& !`.
 use native.Mathlib.Omega.{arith}
 use Rattle.state_set.specs.Member.{member}
-use Rattle.state_set.proofs.Bits.{bit-minus}
+use Rattle.theory.proofs.Bits.{bit-minus}
 use Rattle.state_set.proofs.StateSet.minus.Statement.{statement}
 use Rattle.state_set.proofs.StateSet.minus.Tie as tie
 

@@ -1,6 +1,6 @@
 -- The digits of `|`.
 use Rattle.state_set.specs.Member.{member}
-use Rattle.state_set.proofs.Bits.{bit-or}
+use Rattle.theory.proofs.Bits.{bit-or}
 use Rattle.state_set.proofs.StateSet.union.Statement.{statement}
 use Rattle.state_set.proofs.StateSet.union.Tie as tie
 

@@ -1,7 +1,7 @@
 -- A state below 64 sets its own digit and no other.
 use borrow.Author.Needs.{needs}
 use Rattle.state_set.specs.Member.{member}
-use Rattle.state_set.proofs.Bits.{bit-with, bit-with-past}
+use Rattle.theory.proofs.Bits.{bit-with, bit-with-past}
 use Rattle.state_set.proofs.StateSet.with.Statement.{statement}
 use Rattle.state_set.proofs.StateSet.with.Tie as tie
 

@@ -1,0 +1,140 @@
+-- Harm done by faults, the distance of a table, and the first witness. None of these words goes by a search.
+use mathlib.Core.Path.{_≡_}
+use mathlib.Core.Bool.{Bool, true, not}
+use mathlib.Core.List.{List, [], _∷_}
+use mathlib.Core.Logic.{_⊎_}
+use mathlib.Core.Option.{Option, none, some}
+use Prim.Native.Nat.{ℕ, suc, _+_, _*_, _≤_, min}
+use lib.Dec.{eqb}
+use lib.ListN.{length}
+use Rattle.theory.specs.Lists.{find, each}
+use Rattle.theory.specs.Automaton.{Automaton, Trace, run}
+use Rattle.theory.specs.Monitor.{Monitor, reading}
+use Rattle.theory.specs.Faults.{FaultStep, steps}
+use Rattle.theory.specs.Series.{Series, Valid, sentTrace, receivedTrace, Precedes, harmful, series}
+
+-- ---- lengths that may be missing
+
+-- a number, or missing
+pub data Extent : Type 0 where
+  number : ℕ → Extent
+  missing : Extent
+
+-- some list with the property has the length l, and none is shorter
+pub record Shortest (P : List ℕ → Type 0) (l : ℕ) : Type 0 where
+  pub word : List ℕ
+  pub has : P word
+  pub long : length word ≡ l
+  pub least : (w : List ℕ) → P w → l ≤ length w
+
+-- the length of the shortest list with the property, "and missing if there is none"
+abbrev pub ShortestLength : (List ℕ → Type 0) → Extent → Type 0
+ShortestLength P (number l) = Shortest P l
+ShortestLength P missing = (w : List ℕ) → P w → ⊥
+
+-- the smaller of two: missing counts as greater than every number
+abbrev pub smaller : Extent → Extent → Extent
+smaller missing e = e
+smaller (number l) missing = number l
+smaller (number l) (number m) = number (min l m)
+
+-- never greater
+abbrev pub AtMost : Extent → Extent → Type 0
+AtMost e missing = Unit {0}
+AtMost missing (number m) = ⊥
+AtMost (number l) (number m) = l ≤ m
+
+-- ---- traces and faults
+
+module _ (g : Automaton) (faults : List FaultStep) where
+  -- "one fault of the set, at any one place in it, makes of it a received trace"
+  pub record Faulted (sent received : List ℕ) : Type 0 where
+    pub by : Series
+    pub valid : Valid g faults by
+    pub is-sent : sent ≡ sentTrace by
+    pub is-received : received ≡ receivedTrace by
+
+  -- "a series of traces leads from one to the other in which, of every two neighbours, one is the other after one fault of the set; each trace is joined to itself"
+  pub data Joined : List ℕ → List ℕ → Type 0 where
+    itself : {x : List ℕ} → Trace g x → Joined x x
+    forth : {x y z : List ℕ} → Faulted x y → Joined y z → Joined x z
+    back : {x y z : List ℕ} → Faulted y x → Joined y z → Joined x z
+
+  -- "a series of traces starts with it, each next one is the one before after one fault of the set"
+  pub data Chained : List ℕ → List ℕ → Type 0 where
+    end : {x : List ℕ} → Chained x x
+    then : {x y z : List ℕ} → Faulted x y → Chained y z → Chained x z
+
+  module _ (ends : ℕ → ℕ → Bool) (q : ℕ) where
+    -- one fault takes the sent and the received trace, from q on, to two states that pass the test
+    pub record HarmedFrom (sent : List ℕ) : Type 0 where
+      pub received : List ℕ
+      pub fault : Faulted sent received
+      pub differs : ends (run g q sent) (run g q received) ≡ true
+
+-- ---- a table, a fault set and a reading
+
+-- two states read differently under reading d
+abbrev pub differ : Monitor → ℕ → ℕ → ℕ → Bool
+differ m d p q = not (eqb (reading m d p) (reading m d q))
+
+-- what a trace reads: the reading of the state reached from the start
+abbrev pub reads : Monitor → ℕ → List ℕ → ℕ
+reads m d w = reading m d (run (m .automaton) (m .start) w)
+
+-- the fault steps of a set on the table's symbols
+abbrev pub faultsOf : Monitor → ℕ → List FaultStep
+faultsOf m set = steps set (m .automaton .symbols)
+
+-- "a sent trace is harmed if one fault of the set, at any one place in it, makes of it a received trace with another reading"
+abbrev pub Harmed : Monitor → ℕ → ℕ → List ℕ → Type 0
+Harmed m d set = HarmedFrom (m .automaton) (faultsOf m set) (differ m d) (m .start)
+
+-- "Several faults harm a sent trace if a series of traces starts with it, [..] and the last has another reading than the first."
+pub record HarmedBySeveral (m : Monitor) (d set : ℕ) (sent : List ℕ) : Type 0 where
+  pub last : List ℕ
+  pub chain : Chained (m .automaton) (faultsOf m set) sent last
+  pub differs : differ m d (run (m .automaton) (m .start) sent) (run (m .automaton) (m .start) last) ≡ true
+
+-- "The distance is the length of the shortest harmed sent trace, and missing if there is none."
+abbrev pub Distance : Monitor → ℕ → ℕ → Extent → Type 0
+Distance m d set = ShortestLength (Harmed m d set)
+
+-- "With any number of faults allowed, the distance is the length of the shortest sent trace harmed so, and missing if there is none."
+abbrev pub DistanceOfSeveral : Monitor → ℕ → ℕ → Extent → Type 0
+DistanceOfSeveral m d set = ShortestLength (HarmedBySeveral m d set)
+
+-- ---- witnesses
+
+-- "A witness is a series of steps [..] After the series the sent and received readings differ."
+pub record Witness (m : Monitor) (d set : ℕ) (s : Series) : Type 0 where
+  pub valid : Valid (m .automaton) (faultsOf m set) s
+  pub differs : reads m d (sentTrace s) ≡ reads m d (receivedTrace s) → ⊥
+
+-- the witness that the written order puts first
+pub record FirstWitness (m : Monitor) (d set : ℕ) (s : Series) : Type 0 where
+  pub witness : Witness m d set s
+  pub first : (t : Series) → Witness m d set t → (t ≡ s) ⊎ Precedes s t
+
+-- ---- the first witness, computed
+
+-- with n states, a harmful series of any length has one with at most so many symbols sent (proofs/Witness.antt)
+abbrev pub horizon : ℕ → ℕ
+horizon n = n * n + n + 2
+
+-- the first series in the written order that is harmful from q
+unfoldable pub firstHarmful : Automaton → (ℕ → ℕ → Bool) → List FaultStep → ℕ → Option Series
+firstHarmful g ends faults q = find (harmful g ends q) (each (suc (horizon (g .states))) (series faults (g .symbols)))
+
+-- the first witness of a table
+abbrev pub firstWitness : Monitor → ℕ → ℕ → Option Series
+firstWitness m d set = firstHarmful (m .automaton) (differ m d) (faultsOf m set) (m .start)
+
+-- how far a witness is, where there is one
+abbrev pub extentOf : Option Series → Extent
+extentOf none = missing
+extentOf (some s) = number (length (sentTrace s))
+
+-- the distance of a table
+abbrev pub distance : Monitor → ℕ → ℕ → Extent
+distance m d set = extentOf (firstWitness m d set)

@@ -1,0 +1,59 @@
+-- The faults of a link as fault steps. Only this file tells one kind of fault from another: whatever is said or proved elsewhere is about any fault step.
+use mathlib.Core.Bool.{Bool, cond}
+use mathlib.Core.List.{List, [], _∷_}
+use Prim.Native.Nat.{ℕ, zero, suc, _/_, _%_, _^_}
+use lib.Dec.{eqb}
+use Rattle.theory.specs.Lists.{each}
+
+-- a fault at work: its kind (01's fixed bit), the symbols it covers, the symbols delivered in their place, and the replacement ("0 except for corruption")
+pub record FaultStep : Type 0 where
+  pub kind : ℕ
+  pub sent : List ℕ
+  pub received : List ℕ
+  pub replacement : ℕ
+
+-- "Loss takes one message out."
+abbrev pub loss : ℕ → FaultStep
+loss a = record { kind = 1; sent = a ∷ []; received = []; replacement = 0 }
+
+-- "Corruption puts any message in place of one": the same one included
+abbrev pub corruption : ℕ → ℕ → FaultStep
+corruption a b = record { kind = 2; sent = a ∷ []; received = b ∷ []; replacement = b }
+
+-- "Repeat sends one twice in a row."
+abbrev pub repeat : ℕ → FaultStep
+repeat a = record { kind = 4; sent = a ∷ []; received = a ∷ a ∷ []; replacement = 0 }
+
+-- "Swap exchanges two neighbours": equal ones included
+abbrev pub swap : ℕ → ℕ → FaultStep
+swap a b = record { kind = 8; sent = a ∷ b ∷ []; received = b ∷ a ∷ []; replacement = 0 }
+
+-- how many kinds there are; they count from 0 in the written order, and kind c has the bit 2 ^ c
+abbrev pub kinds : ℕ
+kinds = 4
+
+-- the fault step of kind c at symbol a; b is the replacement or the neighbour
+abbrev pub stepOf : ℕ → ℕ → ℕ → FaultStep
+stepOf zero a b = loss a
+stepOf (suc zero) a b = corruption a b
+stepOf (suc (suc zero)) a b = repeat a
+stepOf (suc (suc (suc c))) a b = swap a b
+
+-- how many b there are for kind c among k symbols; where a kind has no second symbol, b is 0
+abbrev pub seconds : ℕ → ℕ → ℕ
+seconds zero k = 1
+seconds (suc zero) k = k
+seconds (suc (suc zero)) k = 1
+seconds (suc (suc (suc c))) k = k
+
+-- kind c is in the fault set: "Each fault has its fixed bit"
+abbrev pub holds : ℕ → ℕ → Bool
+holds set c = eqb (set / 2 ^ c % 2) 1
+
+-- the fault steps of kind c among k symbols
+abbrev pub stepsOfKind : ℕ → ℕ → List FaultStep
+stepsOfKind k c = each k (λ a. each (seconds c k) (λ b. stepOf c a b ∷ []))
+
+-- the fault steps of a set among k symbols, in the written order: "by kind (loss, corruption, repeat, swap), then sent messages, then replacement"
+unfoldable pub steps : ℕ → ℕ → List FaultStep
+steps set k = each kinds (λ c. cond (holds set c) (stepsOfKind k c) [])
