@@ -1,25 +1,25 @@
 -- Classes, monitorability and the number of states reached, read off sets of states, are those of the table.
 use mathlib.Core.Path.{_≡_, refl, sym, ap, ap₂, subst, _∙_}
 use mathlib.Core.Bool.{Bool, true, false, cond, not, _&&_, _||_, and-false, and-assoc}
-use mathlib.Core.List.{List, [], _∷_, _++_}
+use mathlib.Core.List.{List, [], _∷_}
 use mathlib.Core.Logic.{⊎-elim}
 use Prim.Native.Nat.{ℕ, zero, suc, _≤_, _<_}
 use native.Mathlib.Omega.{arith}
 use lib.Dec.{eqb, ltb}
-use lib.ListN.{length, drop}
+use lib.ListN.{length}
 use borrow.Author.Tests.{eq-eqb, lt-ltb, le-ltb, ltb-true}
-use Rattle.theory.specs.Below.{count, values}
+use Rattle.theory.specs.Below.{count}
 use Rattle.theory.specs.Automaton.{Automaton, Closed, leads, reachedFrom}
 use Rattle.theory.specs.Answer.{answered}
 use Rattle.theory.specs.Monitor.{Monitor, WellFormed, marked, classFrom, class, weak, reached, uglyReached, monitorability, statesReached, stateLimit}
 use Rattle.theory.proofs.Below.{both-ways, or-cases, or-right, and-left, and-right, and-both, any-same, any-short, count-same, count-short, count-any}
 use Rattle.theory.proofs.Reach.{hits-here, leads-complete, leads-same}
-use Rattle.theory.proofs.Values.{values-same}
+use Rattle.theory.proofs.Values.{filled, filled-same}
 use Rattle.state_set.specs.declared.StateSet.{StateSet}
 use Rattle.state_set.specs.Member.{member, Exactly}
 use Rattle.monitor.specs.Format.{automatonOf, tableOf, Table}
 use Rattle.classes.specs.Sets.{hasMark, classBy, uglyBy, monitorabilityBy}
-use Rattle.classes.specs.Classify.{classList, classifyFigures}
+use Rattle.classes.specs.Classify.{classifyFigures}
 
 -- a set that holds exactly the states that pass, below the bound and past it
 exactly-in : {n : ℕ} {f : ℕ → Bool} {s : StateSet} → Exactly n f s → (q : ℕ) → q < n → member s q ≡ f q
@@ -81,11 +81,11 @@ module _ (k s : ℕ) (vs ts : List ℕ) {n : ℕ} {t f : StateSet} (et : Exactly
   unfolding class
   class-by-is q l = rw (exactly-in et q l, exactly-in ef q l)
 
-  pub classes-are : values n (classBy vs t f) ≡ values n (class (tableOf n k s vs ts))
-  classes-are = values-same n (classBy vs t f) (class (tableOf n k s vs ts)) class-by-is
+  pub area-is : length vs ≡ n → (area : List ℕ) → filled (classBy vs t f) area (length vs) ≡ filled (class (tableOf n k s vs ts)) area n
+  area-is l area = filled-same (classBy vs t f) (class (tableOf n k s vs ts)) area l class-by-is
 
   module _ (table : Table stateLimit n k s vs ts) {r : StateSet} (er : Exactly n (reachedFrom (automatonOf n k ts) s) r) where
-    pub reached-is : count stateLimit (member r) ≡ statesReached (tableOf n k s vs ts)
+    reached-is : count stateLimit (member r) ≡ statesReached (tableOf n k s vs ts)
     unfolding statesReached
     reached-is =
         count-short n stateLimit (member r) (table .rows .states-most) (λ q l _. exactly-out er q l)
@@ -103,6 +103,9 @@ module _ (k s : ℕ) (vs ts : List ℕ) {n : ℕ} {t f : StateSet} (et : Exactly
         ∙ any-same n (uglyBy t f r) (uglyReached (tableOf n k s vs ts)) ugly-is)
         (class-by-is s (table .well-formed .start-in))
 
+    pub figures-are : {a b : ℕ} → a ≡ monitorabilityBy vs t f r s → b ≡ count stateLimit (member r) → answered (a ∷ b ∷ []) ≡ answered (classifyFigures (tableOf n k s vs ts))
+    figures-are i j = ap₂ (λ (x y : ℕ). answered (x ∷ y ∷ [])) (i ∙ monitorability-is) (j ∙ reached-is)
+
 -- ---- the monitorability by two differences of sets and a count
 
 module _ (vs : List ℕ) (t f r rest ugly : StateSet) (s : ℕ) (d : (q : ℕ) → member rest q ≡ (member r q && not (member t q))) (e : (q : ℕ) → member ugly q ≡ (member rest q && not (member f q)))
@@ -115,14 +118,3 @@ module _ (vs : List ℕ) (t f r rest ugly : StateSet) (s : ℕ) (d : (q : ℕ) �
 
   pub none-ugly : {w b : ℕ} → a ≤ 0 → w ≡ weak b → b ≡ classBy vs t f s → w ≡ monitorabilityBy vs t f r s
   none-ugly l h g = rw (le-ltb 0 (count stateLimit (uglyBy t f r)) (omega (arith, l, ugly-count))) (h ∙ ap weak g)
-
--- ---- the whole answer
-
-module _ {k s n : ℕ} {vs ts : List ℕ} (table : Table stateLimit n k s vs ts) {t f r : StateSet} (et : Exactly n (leads (automatonOf n k ts) (hasMark vs 1)) t)
-    (ef : Exactly n (leads (automatonOf n k ts) (hasMark vs 2)) f) (er : Exactly n (reachedFrom (automatonOf n k ts) s) r) where
-  pub figures-are : {a b : ℕ} → a ≡ monitorabilityBy vs t f r s → b ≡ count stateLimit (member r)
-      → answered (a ∷ b ∷ []) ≡ answered (classifyFigures (tableOf n k s vs ts))
-  figures-are i j = ap₂ (λ (x y : ℕ). answered (x ∷ y ∷ [])) (i ∙ monitorability-is k s vs ts et ef table er) (j ∙ reached-is k s vs ts et ef table er)
-
-  pub area-is : (area : List ℕ) {l : List ℕ} → l ≡ values (length vs) (classBy vs t f) ++ drop (length vs) area → l ≡ classList (tableOf n k s vs ts) ++ drop n area
-  area-is area e = e ∙ rw (table .marks-length, classes-are k s vs ts et ef)

@@ -8,7 +8,7 @@ ghost use Prim.Native.Nat.{ℕ, _≤_, _<_};
 ghost use lib.ListN.{length, drop};
 ghost use Rattle.theory.specs.Below.{values};
 ghost use Rattle.theory.specs.Automaton.{leads};
-ghost use Rattle.theory.specs.Monitor.{classFrom, class, weak, stateLimit};
+ghost use Rattle.theory.specs.Monitor.{classFrom, class, weak, monitorability, stateLimit};
 ghost use Rattle.theory.specs.Answer.{Answer, written};
 ghost use Rattle.state_set.specs.Member.{Exactly};
 ghost use Rattle.monitor.specs.Format.{Rows, Table, automatonOf, tableOf, monitorOf};
@@ -134,6 +134,24 @@ fn monitorability_by(marks: &[u8], outlook: Outlook, reached: StateSet, start: u
         return 3;
     }
     weak_of(class_by(marks, outlook, start))
+}
+
+// The classes of all states of a table, for callers that want nothing else.
+pub fn write_all_classes(marks: &[u8], nexts: &[u8], n: usize, k: usize, area: &mut [u8])
+    requires { ⌜ Rows stateLimit n k (now nexts) × (length (now marks) ≡ n) × (n ≤ length (now area)) ⌝ }
+    ensures { λ _. ⌜ ((s : ℕ) → now (area .exit) ≡ classList (tableOf n k s (now (marks .entry)) (now (nexts .entry))) ++ drop n (now (area .entry))) ⌝ }
+{
+    write_classes(marks, outlook_of(marks, nexts, n, k), area);
+}
+
+// The monitorability of a table, for callers that want nothing else.
+pub fn monitorability_of(marks: &[u8], nexts: &[u8], n: usize, k: usize, start: usize) -> usize
+    requires { ⌜ Table stateLimit n k start (now marks) (now nexts) ⌝ }
+    ensures { λ r. ⌜ r ≡ monitorability (tableOf n k start (now (marks .entry)) (now (nexts .entry))) ⌝ }
+{
+    let outlook = outlook_of(marks, nexts, n, k);
+    let reached = reach::reachable(nexts, n, k, start);
+    monitorability_by(marks, outlook, reached, start)
 }
 
 // The classes of an accepted table.

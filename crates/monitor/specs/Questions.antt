@@ -63,6 +63,10 @@ question7 b = ofEach 7 (3 + statesOf b) (firstNotBelow (statesOf b) (nexts b)) (
 abbrev pub question8 : List ℕ → Question
 question8 b = ofEach 8 (3 + statesOf b) (firstRevoking (drawnMarks b) (nexts b) (symbolsOf b)) (length (nexts b))
 
+-- "Is the fault set at most 15? 9, place 0."
+abbrev pub question9 : ℕ → Question
+question9 set = record { yes = leb set 15; number = 9; place = 0 }
+
 -- "Is the reading 3 or 6? 10, place 0."
 abbrev pub question10 : ℕ → Question
 question10 d = record { yes = eqb d 3 || eqb d 6; number = 10; place = 0 }

@@ -3,9 +3,11 @@ use monitor::Judgement;
 use monitor::Refusal;
 ghost use mathlib.Core.Path.{_≡_};
 ghost use mathlib.Core.Bool.{_||_};
-ghost use Prim.Native.Nat.{ℕ, _<_};
+ghost use mathlib.Core.List.{_++_};
+ghost use Prim.Native.Nat.{ℕ, _≤_, _<_};
 ghost use lib.Dec.{eqb};
-ghost use lib.ListN.{length};
+ghost use lib.ListN.{length, getD, drop};
+ghost use Rattle.theory.specs.Below.{values};
 ghost use Rattle.theory.specs.Automaton.{run};
 ghost use Rattle.theory.specs.Answer.{Answer};
 ghost use Rattle.theory.specs.Monitor.{reading, stateLimit};
@@ -26,7 +28,7 @@ pub enum Traced {
 }
 
 // Whether this is a reading: 3 by marks, 6 by classes.
-fn is_reading(domain: usize) -> bool
+pub fn is_reading(domain: usize) -> bool
     ensures { λ r. ⌜ r ≡ (eqb domain 3 || eqb domain 6) ⌝ }
 {
     if domain == 3 {
@@ -44,6 +46,37 @@ fn read(marks: &[u8], nexts: &[u8], n: usize, k: usize, domain: usize, q: usize)
         return marks[q] as usize;
     }
     classes::class_of(marks, nexts, n, k, q) as usize
+}
+
+// Copies the marks into the first places of the area.
+fn write_marks(marks: &[u8], area: &mut [u8])
+    requires { ⌜ length (now marks) ≤ length (now area) ⌝ }
+    ensures { λ _. ⌜ now (area .exit) ≡ values (length (now (marks .entry))) (λ q. getD (now (marks .entry)) q 0) ++ drop (length (now (marks .entry))) (now (area .entry)) ⌝ }
+{
+    let mut q = 0;
+    while q < marks.len() {
+        area[q] = marks[q];
+        q += 1;
+    }
+}
+
+// What every state reads, into the first places of the area.
+pub fn write_readings(
+    marks: &[u8],
+    nexts: &[u8],
+    n: usize,
+    k: usize,
+    domain: usize,
+    area: &mut [u8],
+)
+    requires { ⌜ Rows stateLimit n k (now nexts) × (length (now marks) ≡ n) × (n ≤ length (now area)) ⌝ }
+    ensures { λ _. ⌜ ((s : ℕ) → now (area .exit) ≡ values n (reading (tableOf n k s (now (marks .entry)) (now (nexts .entry))) domain) ++ drop n (now (area .entry))) ⌝ }
+{
+    if domain == 3 {
+        write_marks(marks, area);
+        return;
+    }
+    classes::write_all_classes(marks, nexts, n, k, area);
 }
 
 // The state that the symbols lead to from start.

@@ -18,23 +18,19 @@ use Rattle.theory.specs.Faults.{FaultStep, holds, steps}
 use Rattle.theory.specs.Series.{Series, sentTrace, receivedTrace, Precedes}
 use Rattle.theory.specs.Distance.{Extent, number, missing, ShortestLength, smaller, AtMost, Faulted, Joined, itself, forth, back, Chained, end, then, differ, reads, faultsOf, Harmed, HarmedBySeveral, Distance, DistanceOfSeveral, Witness, FirstWitness, firstWitness, distance}
 use Rattle.theory.proofs.Below.{clash, is-true}
-use Rattle.theory.proofs.Reach.{run-in, trace-append}
+use Rattle.theory.proofs.Reach.{run-in}
 use Rattle.theory.proofs.Faults.{Good, steps-good, steps-shrink, steps-rise, together, first-of-two, second-of-two}
-use Rattle.theory.proofs.Witness.{harmed-harm, First, first-harms, extent-exact}
+use Rattle.theory.proofs.Witness.{sent-trace, received-trace, First, first-harms, extent-exact}
 use Rattle.theory.proofs.Extent.{shortest-one, shortest-wider, shortest-same, shortest-either}
 
 -- ---- joined traces, of any fault steps
 
 module _ (g : Automaton) (faults : List FaultStep) (good : (s : FaultStep) → In s faults → Good g s) where
   pub sent-is-trace : {x y : List ℕ} → Faulted g faults x y → Trace g x
-  sent-is-trace f =
-      let v = f .valid in
-      subst (Trace g) (sym (f .is-sent)) (trace-append g (f .by .before) (f .by .fault .sent ++ f .by .after) (v .before-trace) (trace-append g (f .by .fault .sent) (f .by .after) (good (f .by .fault) (v .known) .sent-trace) (v .after-trace)))
+  sent-is-trace f = subst (Trace g) (sym (f .is-sent)) (sent-trace g faults good (f .by) (f .valid))
 
   pub received-is-trace : {x y : List ℕ} → Faulted g faults x y → Trace g y
-  received-is-trace f =
-      let v = f .valid in
-      subst (Trace g) (sym (f .is-received)) (trace-append g (f .by .before) (f .by .fault .received ++ f .by .after) (v .before-trace) (trace-append g (f .by .fault .received) (f .by .after) (good (f .by .fault) (v .known) .received-trace) (v .after-trace)))
+  received-is-trace f = subst (Trace g) (sym (f .is-received)) (received-trace g faults good (f .by) (f .valid))
 
   -- joined is reflexive (on traces), symmetric and transitive
   pub joined-then : {x y z : List ℕ} → Joined g faults x y → Joined g faults y z → Joined g faults x z

@@ -4,7 +4,7 @@ use mathlib.Core.Bool.{Bool, true, false, cond}
 use mathlib.Core.List.{List, [], _∷_, _++_, map, flatMap}
 use mathlib.Core.Logic.{_⊎_, inl, inr, ⊎-elim}
 use mathlib.Core.Option.{Option, none, some, Option·none-ne-some, Option·some-injective}
-use Prim.Native.Nat.{ℕ, zero, suc, _<_}
+use Prim.Native.Nat.{ℕ, zero, suc, _≤_, _<_}
 use native.Mathlib.Nat.{le-refl, le-of-suc-le-suc, not-suc-le-zero, eq-or-lt-of-le}
 use native.Mathlib.Omega.{arith}
 use Rattle.theory.specs.Lists.{In, find, each, Rising}
@@ -112,6 +112,16 @@ module _ {A : Type 0} where
         (λ (q : i ≡ n). find-later (each n h) (h n) (find-each-none n h (λ j s. before j (omega arith))) ∙ subst (λ (j : ℕ). find f (h j) ≡ some x) q e)
         (λ s. find-here (each n h) (h n) (find-each n h i s before e))
         (eq-or-lt-of-le (le-of-suc-le-suc l))
+
+    -- more lists behind do not change what is found
+    pub find-each-more : (m n : ℕ) (h : ℕ → List A) {x : A} → m ≤ n → find f (each m h) ≡ some x → find f (each n h) ≡ some x
+    unfolding each
+    find-each-more m zero h {x} l e = (let z : m ≡ 0 = omega arith in subst (λ (j : ℕ). find f (each j h) ≡ some x) z e)
+    find-each-more m (suc n) h {x} l e =
+        ⊎-elim
+        (λ (q : m ≡ suc n). subst (λ (j : ℕ). find f (each j h) ≡ some x) q e)
+        (λ s. find-here (each n h) (h n) (find-each-more m n h (le-of-suc-le-suc s) e))
+        (eq-or-lt-of-le l)
 
     -- ---- lists that rise
 

@@ -40,10 +40,27 @@ module _ (g : Automaton) where
 
   -- ---- series of one length
 
-  module _ (faults : List FaultStep) where
-    abbrev k : ℕ
-    k = g .symbols
+  abbrev k : ℕ
+  k = g .symbols
 
+  -- a series that begins with the fault step f and has l symbols sent
+  pub record Struck (l : ℕ) (f : FaultStep) (s : Series) : Type 0 where
+    pub rest : List ℕ
+    pub trace : Trace g rest
+    pub long : length (f .sent) + length rest ≡ l
+    pub is : s ≡ begin f rest
+
+  pub struck-is : (l : ℕ) (f : FaultStep) (s : Series) → In s (struck k l f) → Struck l f s
+  struck-is l f s i = go (leb (length (f .sent)) l) refl i
+    where
+      go : (b : Bool) → leb (length (f .sent)) l ≡ b → In s (cond b (map (begin f) (words k (l - length (f .sent)))) []) → Struck l f s
+      go true e j =
+          let m = in-map (begin f) s (words k (l - length (f .sent))) j in
+          let w = words-in (l - length (f .sent)) (m .origin) (m .inside) in
+          record { rest = m .origin; trace = w .0; long = ap (λ (x : ℕ). length (f .sent) + x) (w .1) ∙ add-sub-of-le (leb-true (length (f .sent)) l e); is = m .is }
+      go false e j = absurd j
+
+  module _ (faults : List FaultStep) where
     -- a valid series with l symbols sent
     pub record Long (l : ℕ) (s : Series) : Type 0 where
       pub valid : Valid g faults s
@@ -51,17 +68,9 @@ module _ (g : Automaton) where
 
     struck-in : (l : ℕ) (f : FaultStep) (s : Series) → In f faults → In s (struck k l f) → Long l s
     unfolding Trace
-    struck-in l f s known i = go (leb (length (f .sent)) l) refl i
-      where
-        go : (b : Bool) → leb (length (f .sent)) l ≡ b → In s (cond b (map (begin f) (words k (l - length (f .sent)))) []) → Long l s
-        go true e j =
-            let m = in-map (begin f) s (words k (l - length (f .sent))) j in
-            let w = words-in (l - length (f .sent)) (m .origin) (m .inside) in
-            subst (Long l) (sym (m .is)) (record {
-              valid = record { before-trace = tt; known = known; after-trace = w .0 };
-              long = length-append (f .sent) (m .origin) ∙ ap (λ (x : ℕ). length (f .sent) + x) (w .1) ∙ add-sub-of-le (leb-true (length (f .sent)) l e);
-            })
-        go false e j = absurd j
+    struck-in l f s known i =
+        let r = struck-is l f s i in
+        subst (Long l) (sym (r .is)) (record { valid = record { before-trace = tt; known = known; after-trace = r .trace }; long = length-append (f .sent) (r .rest) ∙ r .long })
 
     in-struck : (l : ℕ) (f : FaultStep) (w : List ℕ) → Trace g w → length (f .sent) + length w ≡ l → In (begin f w) (struck k l f)
     in-struck l f w t e =
@@ -125,55 +134,45 @@ words-rise k (suc l) =
 abbrev pub Ahead : Series → Series → Type 0
 Ahead s t = StepByStep (s .before) (s .fault) (s .after) (t .before) (t .fault) (t .after)
 
-module _ (faults : List FaultStep) (rise : Rising StepFirst faults) (k : ℕ) where
-  abbrev Begins : Series → Type 0
-  Begins s = s .before ≡ []
-
-  struck-begins : (l : ℕ) (f : FaultStep) (s : Series) → In s (struck k l f) → (w : List ℕ) × (s ≡ begin f w)
-  struck-begins l f s i = go (leb (length (f .sent)) l) i
-    where
-      go : (b : Bool) → In s (cond b (map (begin f) (words k (l - length (f .sent)))) []) → (w : List ℕ) × (s ≡ begin f w)
-      go true j = (let m = in-map (begin f) s (words k (l - length (f .sent))) j in (m .origin, m .is))
-      go false j = absurd j
-
-  struck-rise : (l : ℕ) (f : FaultStep) → Rising Ahead (struck k l f)
+module _ (g : Automaton) (faults : List FaultStep) (rise : Rising StepFirst faults) where
+  struck-rise : (l : ℕ) (f : FaultStep) → Rising Ahead (struck (k g) l f)
   struck-rise l f = go (leb (length (f .sent)) l)
     where
-      go : (b : Bool) → Rising Ahead (cond b (map (begin f) (words k (l - length (f .sent)))) [])
-      go true = rising-map Ahead Lower (begin f) (words k (l - length (f .sent))) (λ v w h. inr (refl, h)) (words-rise k (l - length (f .sent)))
+      go : (b : Bool) → Rising Ahead (cond b (map (begin f) (words (k g) (l - length (f .sent)))) [])
+      go true = rising-map Ahead Lower (begin f) (words (k g) (l - length (f .sent))) (λ v w h. inr (refl, h)) (words-rise (k g) (l - length (f .sent)))
       go false = tt
 
-  faults-rise : (l : ℕ) → Rising Ahead (flatMap (struck k l) faults)
+  faults-rise : (l : ℕ) → Rising Ahead (flatMap (struck (k g) l) faults)
   faults-rise l =
-      rising-flatMap Ahead StepFirst (struck k l) faults rise (λ f _. struck-rise l f)
+      rising-flatMap Ahead StepFirst (struck (k g) l) faults rise (λ f _. struck-rise l f)
       (λ f h u v s i j.
-      let a = struck-begins l f u i in
-      let b = struck-begins l h v j in
-      subst (λ (z : Series). Ahead z v) (sym (a .1)) (subst (λ (z : Series). Ahead (begin f (a .0)) z) (sym (b .1)) (inl s)))
+      let a = struck-is g l f u i in
+      let b = struck-is g l h v j in
+      subst (λ (z : Series). Ahead z v) (sym (a .is)) (subst (λ (z : Series). Ahead (begin f (a .rest)) z) (sym (b .is)) (inl s)))
 
-  pub series-ahead : (l : ℕ) → Rising Ahead (series faults k l)
+  pub series-ahead : (l : ℕ) → Rising Ahead (series faults (k g) l)
   unfolding series
   series-ahead zero = faults-rise zero
   series-ahead (suc l) =
-      rising-append Ahead (flatMap (struck k (suc l)) faults) (each k (λ a. map (plain a) (series faults k l))) (faults-rise (suc l))
-      (rising-each Ahead k (λ a. map (plain a) (series faults k l))
-      (λ a _. rising-map Ahead Ahead (plain a) (series faults k l) (λ s t h. inr (refl, h)) (series-ahead l))
+      rising-append Ahead (flatMap (struck (k g) (suc l)) faults) (each (k g) (λ a. map (plain a) (series faults (k g) l))) (faults-rise (suc l))
+      (rising-each Ahead (k g) (λ a. map (plain a) (series faults (k g) l))
+      (λ a _. rising-map Ahead Ahead (plain a) (series faults (k g) l) (λ s t h. inr (refl, h)) (series-ahead l))
       (λ a b s _ x y i j.
-      let u = in-map (plain a) x (series faults k l) i in
-      let v = in-map (plain b) y (series faults k l) j in
+      let u = in-map (plain a) x (series faults (k g) l) i in
+      let v = in-map (plain b) y (series faults (k g) l) j in
       subst (λ (z : Series). Ahead z y) (sym (u .is)) (subst (λ (z : Series). Ahead (plain a (u .origin)) z) (sym (v .is)) (inl s))))
       (λ x y i j.
-      let f = in-flatMap (struck k (suc l)) x faults i in
-      let a = struck-begins (suc l) (f .origin) x (f .here) in
-      let b = in-each y k (λ b. map (plain b) (series faults k l)) j in
-      let v = in-map (plain (b .index)) y (series faults k l) (b .here) in
-      subst (λ (z : Series). Ahead z y) (sym (a .1)) (subst (λ (z : Series). Ahead (begin (f .origin) (a .0)) z) (sym (v .is)) tt))
+      let f = in-flatMap (struck (k g) (suc l)) x faults i in
+      let a = struck-is g (suc l) (f .origin) x (f .here) in
+      let b = in-each y (k g) (λ b. map (plain b) (series faults (k g) l)) j in
+      let v = in-map (plain (b .index)) y (series faults (k g) l) (b .here) in
+      subst (λ (z : Series). Ahead z y) (sym (a .is)) (subst (λ (z : Series). Ahead (begin (f .origin) (a .rest)) z) (sym (v .is)) tt))
 
 -- the series of all lengths below l rise in the written order
 pub series-rise : (g : Automaton) (faults : List FaultStep) → Rising StepFirst faults → (l : ℕ) → Rising Precedes (each l (series faults (g .symbols)))
 series-rise g faults rise l =
     rising-each Precedes l (series faults (g .symbols))
-    (λ i _. one i (series faults (g .symbols) i) (λ s h. series-in g faults i s h .long) (series-ahead faults rise (g .symbols) i))
+    (λ i _. one i (series faults (g .symbols) i) (λ s h. series-in g faults i s h .long) (series-ahead g faults rise i))
     (λ i j s _ x y h h′. (let a = series-in g faults i x h .long in let b = series-in g faults j y h′ .long in inl (omega (arith, s, a, b))))
   where
     one : (i : ℕ) (xs : List Series) → ((s : Series) → In s xs → length (sentTrace s) ≡ i) → Rising Ahead xs → Rising Precedes xs

@@ -1,12 +1,13 @@
 -- Filling a list with values, from the front.
 use mathlib.Core.Path.{_≡_, refl, sym, ap, _∙_}
 use mathlib.Core.List.{List, [], _∷_, _++_, append-assoc}
+use mathlib.Core.Logic.{⊎-elim}
 use Prim.Native.Nat.{ℕ, zero, suc, _+_, _≤_, _<_}
-use native.Mathlib.Nat.{le-refl}
+use native.Mathlib.Nat.{le-refl, le-of-suc-le-suc, not-suc-le-zero, eq-or-lt-of-le}
 use native.Mathlib.Numerals.{add-one}
 use native.Mathlib.Omega.{arith}
-use lib.ListN.{length, drop, set, length-append, length-drop}
-use lib.Seq.{drop-cons, set-at}
+use lib.ListN.{length, getD, drop, set, length-append, length-drop}
+use lib.Seq.{drop-cons, set-at, getD-at}
 use Rattle.theory.specs.Below.{values}
 
 pub length-values : (n : ℕ) (f : ℕ → ℕ) → length (values n f) ≡ n
@@ -33,3 +34,17 @@ filled-turn f area i l =
     ∙ set-at (values i f) _ (drop (suc i) area) (f i) i (length-values i f)
     ∙ sym (append-assoc (values i f) (f i ∷ []) (drop (suc i) area))
     ∙ rw (add-one i)
+
+-- values that are equal fill an area alike
+pub filled-same : (f g : ℕ → ℕ) (area : List ℕ) {i n : ℕ} → i ≡ n → ((q : ℕ) → q < n → f q ≡ g q) → filled f area i ≡ filled g area n
+filled-same f g area {n = n} e h = ap (filled f area) e ∙ ap (λ (l : List ℕ). l ++ drop n area) (values-same n f g h)
+
+pub getD-filled : (f : ℕ → ℕ) (rest : List ℕ) (n q : ℕ) → q < n → getD (values n f ++ rest) q 0 ≡ f q
+unfolding values
+getD-filled f rest zero q l = absurd (not-suc-le-zero l)
+getD-filled f rest (suc n) q l =
+    ap (λ (xs : List ℕ). getD xs q 0) (append-assoc (values n f) (f n ∷ []) rest)
+    ∙ ⊎-elim
+    (λ (e : q ≡ n). rw e (getD-at (values n f) (f n) rest 0 n (length-values n f)))
+    (λ s. getD-filled f (f n ∷ rest) n q s)
+    (eq-or-lt-of-le (le-of-suc-le-suc l))

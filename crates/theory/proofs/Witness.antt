@@ -1,7 +1,7 @@
 -- The first harmful series up to the horizon is the first of all, and where there is none up to the horizon there is none at all.
 -- Shown for any test of the two states reached, any state q to begin with, and any list of fault steps that rises.
 use mathlib.Core.Path.{_≡_, refl, sym, ap, _∙_, subst}
-use mathlib.Core.Bool.{Bool, true, false}
+use mathlib.Core.Bool.{Bool, true, false, _&&_}
 use mathlib.Core.List.{List, [], _∷_, _++_}
 use mathlib.Core.Logic.{_⊎_, inl, inr, ⊎-elim}
 use mathlib.Core.Option.{Option, none, some}
@@ -11,14 +11,15 @@ use native.Mathlib.Omega.{arith}
 use lib.Dec.{eqb}
 use lib.ListN.{length, length-append}
 use borrow.Author.Tests.{eqb-true, eq-eqb}
+use Rattle.theory.specs.Below.{any}
 use Rattle.theory.specs.Lists.{In, find, each, Rising}
 use Rattle.theory.specs.Automaton.{Automaton, Closed, Trace, run, reachedFrom}
 use Rattle.theory.specs.Pairs.{Tells, told}
 use Rattle.theory.specs.Faults.{FaultStep}
 use Rattle.theory.specs.Series.{Series, Valid, sentTrace, receivedTrace, harmful, StepFirst, Precedes, series}
 use Rattle.theory.specs.Distance.{Extent, number, missing, Shortest, ShortestLength, Faulted, HarmedFrom, horizon, firstHarmful, extentOf}
-use Rattle.theory.proofs.Below.{clash, not-clash, lt-or-le}
-use Rattle.theory.proofs.Lists.{InEach, each-in, in-each, find-in, find-none, find-each, find-same, none-passes, find-first}
+use Rattle.theory.proofs.Below.{clash, not-clash, and-both, lt-or-le, any-at}
+use Rattle.theory.proofs.Lists.{InEach, each-in, in-each, find-in, find-none, find-each, find-each-more, find-same, none-passes, find-first}
 use Rattle.theory.proofs.Reach.{run-in, run-append, trace-append, leads-short, reached-complete}
 use Rattle.theory.proofs.Pairs.{told-sound, told-complete, told-settled}
 use Rattle.theory.proofs.Faults.{Good}
@@ -30,6 +31,13 @@ run-parts g q x u y = run-append g q x (u ++ y) ∙ run-append g (run g q x) u y
 
 pub sent-length : (s : Series) → length (sentTrace s) ≡ length (s .before) + (length (s .fault .sent) + length (s .after))
 sent-length s = length-append (s .before) (s .fault .sent ++ s .after) ∙ ap (λ (l : ℕ). length (s .before) + l) (length-append (s .fault .sent) (s .after))
+
+-- a fault step strikes: it takes some state reached from q to two states that some trace tells apart
+abbrev pub strikesAt : Automaton → (ℕ → ℕ → Bool) → ℕ → FaultStep → ℕ → Bool
+strikesAt g ends q f p = reachedFrom g q p && told g ends (g .states * g .states) (run g p (f .sent)) (run g p (f .received))
+
+abbrev pub strikes : Automaton → (ℕ → ℕ → Bool) → ℕ → FaultStep → Bool
+strikes g ends q f = any (g .states) (strikesAt g ends q f)
 
 module _ (g : Automaton) (ends : ℕ → ℕ → Bool) (faults : List FaultStep) where
   -- a valid series that is harmful from q
@@ -84,17 +92,22 @@ module _ (g : Automaton) (ends : ℕ → ℕ → Bool) (faults : List FaultStep)
         let h = leads-short g (eqb (run g q x)) q (reached-complete c q-in (record { word = x; trace = t; arrives = refl })) in
         (h .hits .word, h .hits .trace, sym (eqb-true (run g q x) (run g q (h .hits .word)) (h .hits .passes)), h .short)
 
+    -- after the fault of a harmful series, n * n symbols are enough to tell apart
+    harm-told : (s : Series) → Harm q s → told g ends (g .states * g .states) (sentState q s) (receivedState q s) ≡ true
+    harm-told s h =
+        let f = good (s .fault) (h .valid .known) in
+        let p-in = run-in c q (s .before) q-in (h .valid .before-trace) in
+        told-settled g ends c (length (s .after)) (sentState q s) (receivedState q s)
+        (run-in c (run g q (s .before)) (s .fault .sent) p-in (f .sent-trace))
+        (run-in c (run g q (s .before)) (s .fault .received) p-in (f .received-trace))
+        (told-complete g ends (length (s .after)) (sentState q s) (receivedState q s) (s .after) (le-refl (length (s .after))) (harm-tells q s h))
+
     -- every harmful series has one that is not longer than the horizon
     pub near : (s : Series) → Harm q s → (t : Series) × Harm q t × (length (sentTrace t) ≤ horizon (g .states))
     near s h =
         let way = short-way (s .before) (h .valid .before-trace) in
         let f = good (s .fault) (h .valid .known) in
-        let p-in = run-in c q (s .before) q-in (h .valid .before-trace) in
-        let a-in = run-in c (run g q (s .before)) (s .fault .sent) p-in (f .sent-trace) in
-        let b-in = run-in c (run g q (s .before)) (s .fault .received) p-in (f .received-trace) in
-        let tells = harm-tells q s h in
-        let far = told-settled g ends c (length (s .after)) (sentState q s) (receivedState q s) a-in b-in (told-complete g ends (length (s .after)) (sentState q s) (receivedState q s) (s .after) (le-refl (length (s .after))) tells) in
-        let w = told-sound g ends (g .states * g .states) (sentState q s) (receivedState q s) far in
+        let w = told-sound g ends (g .states * g .states) (sentState q s) (receivedState q s) (harm-told s h) in
         let t : Series = record { before = way .0; fault = s .fault; after = w .word } in (
           t,
           tells-harm q t (way .1) (h .valid .known)
@@ -185,6 +198,33 @@ module _ (g : Automaton) (ends : ℕ → ℕ → Bool) (faults : List FaultStep)
     found-none no-harm =
         find-none (harmful g ends q) upToHorizon (λ t i. not-clash (λ h. (let r = in-each t (suc (horizon (g .states))) (series faults (g .symbols)) i in no-harm t (record { valid = series-in g faults (r .index) t (r .here) .valid; harms = h }))))
 
+    -- ---- how little has to be computed
+
+    -- what is first among the series of at most l symbols is the first
+    pub found-early : (l : ℕ) (s : Series) → l ≤ horizon (g .states) → find (harmful g ends q) (each (suc l) (series faults (g .symbols))) ≡ some s → firstHarmful g ends faults q ≡ some s
+    unfolding firstHarmful
+    found-early l s within e = find-each-more (harmful g ends q) (suc l) (suc (horizon (g .states))) (series faults (g .symbols)) (suc-le-suc within) e
+
+    -- where no fault step strikes, there is no first
+    pub found-never : find (strikes g ends q) faults ≡ none → firstHarmful g ends faults q ≡ none
+    found-never e =
+        found-none
+        (λ t h.
+        let p = run g q (t .before) in
+        let w = h .valid .before-trace in
+        let r : reachedFrom g q p ≡ true = reached-complete c q-in (record { word = t .before; trace = w; arrives = refl }) in
+        clash
+        (any-at (g .states) (strikesAt g ends q (t .fault)) p (run-in c q (t .before) q-in w) (and-both (reachedFrom g q p) (told g ends (g .states * g .states) (sentState q t) (receivedState q t)) r (harm-told t h)))
+        (none-passes (strikes g ends q) faults e (t .fault) (h .valid .known)))
+
+-- the two traces of a valid series are traces
+module _ (g : Automaton) (faults : List FaultStep) (good : (s : FaultStep) → In s faults → Good g s) (s : Series) (v : Valid g faults s) where
+  pub sent-trace : Trace g (sentTrace s)
+  sent-trace = trace-append g (s .before) (s .fault .sent ++ s .after) (v .before-trace) (trace-append g (s .fault .sent) (s .after) (good (s .fault) (v .known) .sent-trace) (v .after-trace))
+
+  pub received-trace : Trace g (receivedTrace s)
+  received-trace = trace-append g (s .before) (s .fault .received ++ s .after) (v .before-trace) (trace-append g (s .fault .received) (s .after) (good (s .fault) (v .known) .received-trace) (v .after-trace))
+
 -- only the test on states matters
 pub harmful-same : (g : Automaton) (ends h : ℕ → ℕ → Bool) (faults : List FaultStep) → Closed g → ((s : FaultStep) → In s faults → Good g s)
     → ((p r : ℕ) → p < g .states → r < g .states → ends p r ≡ h p r) → (q : ℕ) → q < g .states → firstHarmful g ends faults q ≡ firstHarmful g h faults q
@@ -194,7 +234,4 @@ harmful-same g ends h faults c good same q q-in =
     (λ s i.
     let r = in-each s (suc (horizon (g .states))) (series faults (g .symbols)) i in
     let v = series-in g faults (r .index) s (r .here) .valid in
-    let f = good (s .fault) (v .known) in
-    same (run g q (sentTrace s)) (run g q (receivedTrace s))
-    (run-in c q (sentTrace s) q-in (trace-append g (s .before) (s .fault .sent ++ s .after) (v .before-trace) (trace-append g (s .fault .sent) (s .after) (f .sent-trace) (v .after-trace))))
-    (run-in c q (receivedTrace s) q-in (trace-append g (s .before) (s .fault .received ++ s .after) (v .before-trace) (trace-append g (s .fault .received) (s .after) (f .received-trace) (v .after-trace)))))
+    same (run g q (sentTrace s)) (run g q (receivedTrace s)) (run-in c q (sentTrace s) q-in (sent-trace g faults good s v)) (run-in c q (receivedTrace s) q-in (received-trace g faults good s v)))

@@ -1,4 +1,5 @@
 -- `classify_table` meets its contract.
+use mathlib.Core.Path.{_∙_}
 use borrow.Author.Needs.{needs}
 use Rattle.classes.proofs.Tables.{figures-are, area-is}
 use Rattle.classes.proofs.classify_table.Statement.{statement}
@@ -24,11 +25,13 @@ same-length c = search needs
 
 returns : tie.Need-returns
 returns c =
-    let table = c .before .before .before .before .before .before .before .before .before .before .before .pre .0 in
+    let start = c .before .before .before .before .before .before .before .before .before .before .before in
+    let a = start .args in
+    let table = start .pre .0 in
     let o = c .before .before .before .before .before .before .before .outlook-of .ensures in
     let r = c .before .before .before .before .before .before .reachable .ensures in (
-      figures-are table (o .0) (o .1) r (c .before .monitorability-by .ensures) (c .count .ensures),
-      area-is table (o .0) (o .1) r (c .before .before .before .before .before .before .before .before .before .before .before .args .area .now) (c .before .before .before .before .write-classes .ensures),
+      figures-are (a .k) (a .start) (a .marks .now) (a .nexts .now) (o .0) (o .1) table r (c .before .monitorability-by .ensures) (c .count .ensures),
+      c .before .before .before .before .write-classes .ensures ∙ area-is (a .k) (a .start) (a .marks .now) (a .nexts .now) (o .0) (o .1) (table .marks-length) (a .area .now),
     )
 
 pub classify-table-spec : {M : Type 1} → statement M

@@ -1,0 +1,56 @@
+-- `costs` meets its contract: the costs of the states passed.
+use mathlib.Core.Path.{refl}
+use Prim.Native.Nat.{_-_}
+use native.Mathlib.Nat.{lt-of-lt-of-le}
+use borrow.Author.Needs.{needs}
+use Rattle.theory.specs.Faults.{steps}
+use Rattle.monitor.specs.Format.{automatonOf}
+use Rattle.faults.specs.Steps.{Costs}
+use Rattle.faults.proofs.Cheapest.{best-cheapest, costs-none, costs-more, costs-end}
+use Rattle.faults.proofs.costs.Statement.{statement}
+use Rattle.faults.proofs.costs.Tie as tie
+
+abbrev Inv-loop : tie.InvT-loop
+Inv-loop square nexts n k set costs₀ p₀ costs p = Costs (automatonOf n k nexts) square (steps set k) p costs
+
+abbrev μ-loop : tie.MeasureT-loop
+μ-loop square nexts n k set costs₀ p₀ costs p = n - p
+
+loop-holds : tie.Need-loop-holds Inv-loop μ-loop
+loop-holds c = costs-none _ refl
+
+best-requires : tie.Need-best-requires Inv-loop μ-loop
+best-requires c κs = search needs
+
+mul-costs : tie.Need-mul-costs Inv-loop μ-loop
+mul-costs c = search needs
+
+array-write-costs : tie.Need-array-write-costs Inv-loop μ-loop
+array-write-costs c = search needs
+
+add-p : tie.Need-add-p Inv-loop μ-loop
+add-p c = search needs
+
+loop-less : tie.Need-loop-less Inv-loop μ-loop
+loop-less c = search needs
+
+loop-again : tie.Need-loop-again Inv-loop μ-loop
+loop-again c = costs-more (lt-of-lt-of-le (c .before .loop-test .taken) (c .before .before .before .before .pre .states-most)) (c .before .before .loop .inv) (best-cheapest (c .best .ensures))
+
+returns : tie.Need-returns Inv-loop μ-loop
+returns c = costs-end (c .before .loop .inv) (c .loop-test .left)
+
+pub costs-spec : {M : Type 1} → statement M
+costs-spec =
+    tie.close
+    (tie.spec
+    Inv-loop
+    μ-loop
+    loop-holds
+    best-requires
+    mul-costs
+    array-write-costs
+    add-p
+    loop-less
+    loop-again
+    returns)

@@ -1,0 +1,14 @@
+-- `has_kind` meets its contract: the code reads the bit.
+use borrow.Author.Needs.{needs}
+use Rattle.theory.proofs.Bits.{bit-read}
+use Rattle.faults.proofs.has_kind.Statement.{statement}
+use Rattle.faults.proofs.has_kind.Tie as tie
+
+shr-result : tie.Need-shr-result
+shr-result c = search needs
+
+returns : tie.Need-returns
+returns c = bit-read (c .args .set) (c .args .kind)
+
+pub has-kind-spec : {M : Type 1} → statement M
+has-kind-spec = tie.close (tie.spec shr-result returns)

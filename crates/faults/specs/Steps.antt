@@ -1,0 +1,61 @@
+-- Fault steps as the search handles them, and what the best of them costs at a state.
+use mathlib.Core.Path.{_≡_}
+use mathlib.Core.Bool.{cond}
+use mathlib.Core.List.{List, [], _∷_}
+use mathlib.Core.Option.{some}
+use Prim.Native.Nat.{ℕ, _+_, _≤_, _<_}
+use lib.Dec.{eqb, ltb}
+use lib.ListN.{length, getD}
+use Rattle.theory.specs.Lists.{In, find, each}
+use Rattle.theory.specs.Automaton.{Automaton, run}
+use Rattle.theory.specs.Monitor.{stateLimit}
+use Rattle.theory.specs.Faults.{FaultStep, kinds, stepOf, seconds, holds, stepsOfKind}
+use Rattle.pairs.specs.Square.{never, entry}
+use Rattle.faults.specs.declared.Fault.{Fault}
+use Rattle.faults.specs.declared.Choice.{Choice}
+
+-- the fault step that a fault stands for
+abbrev pub stepFor : Fault → FaultStep
+stepFor f = stepOf (f .kind) (f .first) (f .second)
+
+-- the parts of the list `steps`: a kind's step with two symbols, its steps with one first symbol, its steps where the set has it
+abbrev pub stepWith : ℕ → ℕ → ℕ → List FaultStep
+stepWith kind a b = stepOf kind a b ∷ []
+
+abbrev pub stepsFrom : ℕ → ℕ → ℕ → List FaultStep
+stepsFrom k kind a = each (seconds kind k) (stepWith kind a)
+
+abbrev pub stepsIfHeld : ℕ → ℕ → ℕ → List FaultStep
+stepsIfHeld set k kind = cond (holds set kind) (stepsOfKind k kind) []
+
+-- a fault on k symbols
+pub record Ranged (k : ℕ) (f : Fault) : Type 0 where
+  pub kind-in : f .kind < kinds
+  pub first-in : f .first < k
+  pub second-in : f .second < k
+
+-- l symbols and then as many as e notes; never where e is, and where the sum would reach it
+abbrev pub plus : ℕ → ℕ → ℕ
+plus l e = cond (ltb (l + e) never) (l + e) never
+
+-- the fewest symbols sent from p by a series that begins with the fault step s, by the square d
+abbrev pub costOf : Automaton → List ℕ → ℕ → FaultStep → ℕ
+costOf g d p s = plus (length (s .sent)) (entry d (run g p (s .sent)) (run g p (s .received)))
+
+-- c chooses the first of the cheapest of the steps at p; where none has a cost, only that is said
+pub record Best (g : Automaton) (d : List ℕ) (p : ℕ) (steps : List FaultStep) (c : Choice) : Type 0 where
+  pub most : c .cost ≤ never
+  pub least : (s : FaultStep) → In s steps → c .cost ≤ costOf g d p s
+  pub first : c .cost < never → find (λ s. eqb (costOf g d p s) (c .cost)) steps ≡ some (stepFor (c .fault))
+  pub ranged : c .cost < never → Ranged (g .symbols) (c .fault)
+
+-- a cost that no step undercuts and, where it is not never, some step has
+pub record Cheapest (g : Automaton) (d : List ℕ) (p : ℕ) (steps : List FaultStep) (cost : ℕ) : Type 0 where
+  pub most : cost ≤ never
+  pub least : (s : FaultStep) → In s steps → cost ≤ costOf g d p s
+  pub attained : cost < never → (s : FaultStep) × In s steps × (costOf g d p s ≡ cost)
+
+-- the costs of the states below `upto`
+pub record Costs (g : Automaton) (d : List ℕ) (steps : List FaultStep) (upto : ℕ) (costs : List ℕ) : Type 0 where
+  pub size : length costs ≡ stateLimit
+  pub each : (p : ℕ) → p < upto → Cheapest g d p steps (getD costs p 0)

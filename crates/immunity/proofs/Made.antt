@@ -1,0 +1,171 @@
+-- The witness as it is made: the way to the fault, the fault step, and the path after it are the first harmful series.
+use mathlib.Core.Path.{_≡_, refl, sym, ap, _∙_, subst}
+use mathlib.Core.Bool.{Bool}
+use mathlib.Core.List.{List, [], _∷_, _++_}
+use mathlib.Core.Logic.{⊎-elim}
+use mathlib.Core.Option.{some}
+use Prim.Native.Nat.{ℕ, zero, suc, _+_, _≤_, _<_}
+use native.Mathlib.Nat.{add-zero, add-suc, suc-add, le-antisymm}
+use native.Mathlib.Omega.{arith}
+use lib.Dec.{eqb}
+use lib.ListN.{length, getD, set}
+use lib.Seq.{sets, length-sets}
+use borrow.Author.Tests.{eqb-true}
+use Rattle.theory.specs.Lists.{In, find}
+use Rattle.theory.specs.Automaton.{Automaton, Closed, run}
+use Rattle.theory.specs.Faults.{FaultStep, kinds, steps}
+use Rattle.theory.specs.Series.{Series, sentTrace, receivedTrace}
+use Rattle.theory.specs.Distance.{firstHarmful}
+use Rattle.theory.proofs.Below.{lt-or-le}
+use Rattle.theory.proofs.Lists.{find-in, some-same}
+use Rattle.theory.proofs.Witness.{run-parts, sent-length}
+use Rattle.monitor.specs.Format.{Rows, automatonOf}
+use Rattle.monitor.proofs.Rows.{next-of-rows}
+use Rattle.pairs.specs.Square.{never, entry, Squared, path}
+use Rattle.pairs.proofs.Path.{path-length}
+use Rattle.faults.specs.declared.Fault.{Fault}
+use Rattle.faults.specs.declared.Choice.{Choice}
+use Rattle.faults.specs.Steps.{stepFor, Ranged, costOf, Best, Costs}
+use Rattle.totals.specs.Totals.{Settled, approach}
+use Rattle.immunity.specs.Findings.{seriesFigures}
+use Rattle.immunity.proofs.Search.{madeOf, search-finds, cost-sum}
+
+pub sets-append : (l : List ℕ) (i : ℕ) (xs ys : List ℕ) → sets (sets l i xs) (i + length xs) ys ≡ sets l i (xs ++ ys)
+sets-append l i [] ys = ap (λ (j : ℕ). sets l j ys) (add-zero i)
+sets-append l i (x ∷ xs) ys = ap (λ (j : ℕ). sets (sets (set l i x) (suc i) xs) j ys) (add-suc i (length xs) ∙ sym (suc-add i (length xs))) ∙ sets-append (set l i x) (suc i) xs ys
+
+pub ranged-wider : {k m : ℕ} {f : Fault} → Ranged k f → k ≤ m → Ranged m f
+ranged-wider r l = record { kind-in = r .kind-in; first-in = omega (arith, r .first-in); second-in = omega (arith, r .second-in) }
+
+-- the best choice at a state costs what the state costs
+pub best-cost : {g : Automaton} {d costs : List ℕ} {faults : List FaultStep} {n q : ℕ} {c : Choice} → Costs g d faults n costs → q < n → Best g d q faults c → c .cost ≡ getD costs q 0
+best-cost {g} {d} {costs} {faults} {n} {q} {c} cs l b = le-antisymm below above
+  where
+    below : c .cost ≤ getD costs q 0
+    below =
+        ⊎-elim
+        (λ s. (let a = cs .each q l .attained s in let x = b .least (a .0) (a .1) in let y = a .2 in omega (arith, x, y)))
+        (λ s. (let x = b .most in omega (arith, x, s)))
+        (lt-or-le (getD costs q 0) never)
+
+    above : getD costs q 0 ≤ c .cost
+    above =
+        ⊎-elim
+        (λ s.
+        let f = find-in (λ t. eqb (costOf g d q t) (c .cost)) faults (b .first s) in
+        let x = cs .each q l .least (stepFor (c .fault)) (f .0) in
+        let y = eqb-true (costOf g d q (stepFor (c .fault))) (c .cost) (f .1) in
+        omega (arith, x, y))
+        (λ s. (let x = cs .each q l .most in omega (arith, x, s)))
+        (lt-or-le (c .cost) never)
+
+-- what a search has made: the square, the costs and the totals
+pub record Searched (g : Automaton) (ends : ℕ → ℕ → Bool) (set : ℕ) (d costs v : List ℕ) : Type 0 where
+  pub closed : Closed g
+  pub squared : Squared g ends d
+  pub costs-are : Costs g d (steps set (g .symbols)) (g .states) costs
+  pub settled : Settled g costs v
+
+-- `count` symbols lead from the start to `state`, where c is the best choice
+pub record Chosen (g : Automaton) (set : ℕ) (d costs v : List ℕ) (start state count : ℕ) (c : Choice) : Type 0 where
+  pub start-in : start < g .states
+  pub low : getD v start 0 < never
+  pub is-count : count ≡ length (approach g v costs (getD v start 0) start)
+  pub is-state : state ≡ run g start (approach g v costs (getD v start 0) start)
+  pub state-in : state < g .states
+  pub is-cost : count + getD costs state 0 ≡ getD v start 0
+  pub best : Best g d state (steps set (g .symbols)) c
+
+pub searched : (set : ℕ) {limit n k : ℕ} {ts d costs v : List ℕ} {ends : ℕ → ℕ → Bool} → Rows limit n k ts → Squared (automatonOf n k ts) ends d → Costs (automatonOf n k ts) d (steps set k) n costs → Settled (automatonOf n k ts) costs v
+    → Searched (automatonOf n k ts) ends set d costs v
+searched set r q c t = record { closed = next-of-rows r; squared = q; costs-are = c; settled = t }
+
+pub chosen : {g : Automaton} {ends : ℕ → ℕ → Bool} {set : ℕ} {d costs v : List ℕ} → Searched g ends set d costs v → (start : ℕ) {state count : ℕ} {c : Choice} → start < g .states → getD v start 0 < never
+    → count ≡ length (approach g v costs (getD v start 0) start) → state ≡ run g start (approach g v costs (getD v start 0) start) → state < g .states → count + getD costs state 0 ≡ getD v start 0
+    → Best g d state (steps set (g .symbols)) c → Chosen g set d costs v start state count c
+chosen h start l low n s i e b = record { start-in = l; low = low; is-count = n; is-state = s; state-in = i; is-cost = e; best = b }
+
+module _ {g : Automaton} {ends : ℕ → ℕ → Bool} {set : ℕ} {d costs v : List ℕ} {start state count : ℕ} {c : Choice} (h : Searched g ends set d costs v) (k : Chosen g set d costs v start state count c) where
+  abbrev way : List ℕ
+  way = approach g v costs (getD v start 0) start
+
+  abbrev step : FaultStep
+  step = stepFor (c .fault)
+
+  abbrev apart : ℕ
+  apart = entry d (run g state (step .sent)) (run g state (step .received))
+
+  cheap : c .cost < never
+  cheap = (let x = best-cost (h .costs-are) (k .state-in) (k .best) in let y = k .is-cost in let z = k .low in omega (arith, x, y, z))
+
+  pub made-ranged : Ranged (g .symbols) (c .fault)
+  made-ranged = k .best .ranged cheap
+
+  picked : find (λ s. eqb (costOf g d state s) (getD costs state 0)) (steps set (g .symbols)) ≡ some step
+  picked = subst (λ (x : ℕ). find (λ s. eqb (costOf g d state s) x) (steps set (g .symbols)) ≡ some step) (best-cost (h .costs-are) (k .state-in) (k .best)) (k .best .first cheap)
+
+  -- what is covered and what is still to be sent are the cost
+  made-cost : length (step .sent) + apart ≡ getD costs state 0
+  made-cost =
+      let f = find-in (λ s. eqb (costOf g d state s) (getD costs state 0)) (steps set (g .symbols)) picked in
+      cost-sum (length (step .sent)) apart (getD costs state 0) (eqb-true (costOf g d state step) (getD costs state 0) (f .1)) (let x = best-cost (h .costs-are) (k .state-in) (k .best) in let y = cheap in omega (arith, x, y))
+
+  made-sum : count + (length (step .sent) + apart) ≡ getD v start 0
+  made-sum = (let x = made-cost in omega (arith, x, k .is-cost))
+
+  made-low : apart < never
+  made-low = (let x = made-sum in omega (arith, x, k .low))
+
+  -- the trace fits where the total does
+  pub made-fits : (area : List ℕ) {one : List ℕ} → one ≡ sets area 0 way → getD v start 0 ≤ length area → count + length (step .sent) ≤ length one
+  made-fits area e l = (let x = made-sum in let y = ap length e ∙ length-sets area 0 way in omega (arith, x, y, l))
+
+  pub made-fits-on : (area : List ℕ) {one two : List ℕ} {covered p q : ℕ} → one ≡ sets area 0 way → two ≡ sets one count (step .sent) → covered ≡ length (step .sent)
+      → p ≡ run g state (step .sent) → q ≡ run g state (step .received) → getD v start 0 ≤ length area → count + covered + entry d p q ≤ length two
+  made-fits-on area {one} e₁ e₂ ea ep eq l =
+      let x = made-sum in
+      let y = ap length e₂ ∙ length-sets one count (step .sent) ∙ ap length e₁ ∙ length-sets area 0 way in
+      rw (ep, eq) (omega (arith, x, y, ea, l))
+
+  pub made-apart : {p q : ℕ} → p ≡ run g state (step .sent) → q ≡ run g state (step .received) → entry d p q < never
+  made-apart ep eq = rw (ep, eq) made-low
+
+  abbrev pub made : Series
+  made = record { before = way; fault = step; after = path g d apart (run g state (step .sent)) (run g state (step .received)) }
+
+  made-first : firstHarmful g ends (steps set (g .symbols)) start ≡ some made
+  made-first =
+      subst (λ (q : ℕ). find (λ s. eqb (costOf g d q s) (getD costs q 0)) (steps set (g .symbols)) ≡ some step → firstHarmful g ends (steps set (g .symbols)) start ≡ some (record { before = way; fault = step; after = path g d (entry d (run g q (step .sent)) (run g q (step .received))) (run g q (step .sent)) (run g q (step .received)) })) (sym (k .is-state))
+      (search-finds set (h .closed) (h .squared) (h .costs-are) (h .settled) start step (k .start-in) (k .low)) picked
+
+  -- the first series is the one made
+  pub made-is : {s : Series} → firstHarmful g ends (steps set (g .symbols)) start ≡ some s → made ≡ s
+  made-is e = some-same (sym made-first ∙ e)
+
+  -- the three parts written one after the other
+  pub made-written : {s : Series} (area : List ℕ) {one two three : List ℕ} {covered p q : ℕ} → firstHarmful g ends (steps set (g .symbols)) start ≡ some s → one ≡ sets area 0 way → two ≡ sets one count (step .sent)
+      → covered ≡ length (step .sent) → p ≡ run g state (step .sent) → q ≡ run g state (step .received) → three ≡ sets two (count + covered) (path g d (entry d p q) p q) → three ≡ sets area 0 (sentTrace s)
+  made-written {s} area e h₁ h₂ ea ep eq h₃ =
+      h₃
+      ∙ rw (ep, eq, ea, h₂, h₁, k .is-count)
+      (sets-append (sets area 0 way) (length way) (step .sent) (made .after)
+      ∙ ap (λ (j : ℕ). sets (sets area 0 way) j (step .sent ++ made .after)) (let z : length way ≡ 0 + length way = omega arith in z)
+      ∙ sets-append area 0 way (step .sent ++ made .after))
+      ∙ ap (λ (t : Series). sets area 0 (sentTrace t)) (made-is e)
+
+  -- the figures of the witness made
+  pub made-figures : {s : Series} (outs : List ℕ) {kind replacement x y p q : ℕ} → firstHarmful g ends (steps set (g .symbols)) start ≡ some s
+      → kind ≡ step .kind → replacement ≡ step .replacement → p ≡ run g state (step .sent) → q ≡ run g state (step .received)
+      → x ≡ run g p (path g d (entry d p q) p q) → y ≡ run g q (path g d (entry d p q) p q)
+      → _≡_ {A = List ℕ} (getD v start 0 ∷ count ∷ kind ∷ replacement ∷ getD outs x 0 ∷ getD outs y 0 ∷ []) (seriesFigures (λ r. getD outs r 0) g start s)
+  made-figures {s} outs e ek er ep eq ex ey =
+      rw (distance, k .is-count, ek, er, ex, ey, ep, eq, sent, received) (ap (seriesFigures (λ r. getD outs r 0) g start) (made-is e))
+    where
+      distance : getD v start 0 ≡ length (sentTrace made)
+      distance = (let x = made-sum in let y = sent-length made in let z = path-length g d apart (run g state (step .sent)) (run g state (step .received)) in omega (arith, x, y, z, k .is-count))
+
+      sent : run g (run g state (step .sent)) (made .after) ≡ run g start (sentTrace made)
+      sent = ap (λ (r : ℕ). run g (run g r (step .sent)) (made .after)) (k .is-state) ∙ sym (run-parts g start way (step .sent) (made .after))
+
+      received : run g (run g state (step .received)) (made .after) ≡ run g start (receivedTrace made)
+      received = ap (λ (r : ℕ). run g (run g r (step .received)) (made .after)) (k .is-state) ∙ sym (run-parts g start way (step .received) (made .after))

@@ -1,0 +1,81 @@
+-- From the outputs that the search goes by to the readings of the table.
+use mathlib.Core.Path.{_≡_, refl, sym, ap, _∙_, subst}
+use mathlib.Core.Bool.{Bool, not}
+use mathlib.Core.List.{List, [], _∷_, _++_}
+use mathlib.Core.Option.{Option, none, some}
+use Prim.Native.Nat.{ℕ, _-_, _<_}
+use native.Mathlib.Omega.{arith}
+use lib.Dec.{eqb}
+use lib.ListN.{getD, take}
+use lib.Seq.{getD-take}
+use Rattle.theory.specs.Below.{values}
+use Rattle.theory.specs.Automaton.{run}
+use Rattle.theory.specs.Monitor.{Monitor, reading, monitorability}
+use Rattle.theory.specs.Faults.{steps}
+use Rattle.theory.specs.Answer.{Answer, asks, written}
+use Rattle.theory.specs.Series.{Series, sentTrace, receivedTrace}
+use Rattle.theory.specs.Distance.{differ, faultsOf, firstHarmful, firstWitness, extentOf, distance}
+use Rattle.theory.proofs.Values.{getD-filled}
+use Rattle.theory.proofs.Reach.{run-in}
+use Rattle.theory.proofs.Faults.{steps-good, steps-rise}
+use Rattle.theory.proofs.Witness.{harmful-same, first-harms, sent-trace, received-trace}
+use Rattle.monitor.specs.Format.{Table, automatonOf, tableOf}
+use Rattle.pairs.specs.Square.{differing}
+use Rattle.immunity.specs.Findings.{witnessFigures, witnessTrace, roomQuestions, tableFigures, column, cardFigures}
+
+-- the first n of a list that was filled with values
+pub filled-read : (n : ℕ) (f : ℕ → ℕ) (rest : List ℕ) {l : List ℕ} → l ≡ values n f ++ rest → (q : ℕ) → q < n → getD (take (n - 0) l) q 0 ≡ f q
+filled-read n f rest {l} e q h = getD-take (n - 0) l q 0 (omega arith) ∙ ap (λ (xs : List ℕ). getD xs q 0) e ∙ getD-filled f rest n q h
+
+-- outs holds what every state reads
+module _ {limit n k start : ℕ} {vs ts : List ℕ} (t : Table limit n k start vs ts) (d set : ℕ) (outs : List ℕ)
+    (read : (q : ℕ) → q < n → getD outs q 0 ≡ reading (tableOf n k start vs ts) d q) where
+  abbrev m : Monitor
+  m = tableOf n k start vs ts
+
+  pub first-same : firstHarmful (automatonOf n k ts) (differing outs) (steps set k) start ≡ firstWitness m d set
+  first-same =
+      harmful-same (automatonOf n k ts) (differing outs) (differ m d) (steps set k) (t .well-formed .closed) (steps-good (automatonOf n k ts) set)
+      (λ p q lp lq. rw (read p lp, read q lq)) start (t .well-formed .start-in)
+
+  figures-same : witnessFigures (λ q. getD outs q 0) (automatonOf n k ts) start (firstWitness m d set) ≡ tableFigures m d set
+  figures-same = go (firstWitness m d set) refl
+    where
+      go : (o : Option Series) → firstWitness m d set ≡ o → witnessFigures (λ q. getD outs q 0) (automatonOf n k ts) start o ≡ witnessFigures (reading m d) (automatonOf n k ts) start o
+      go none e = refl
+      go (some s) e =
+          let w = t .well-formed in
+          let g = automatonOf n k ts in
+          let v = first-harms g (differ m d) (faultsOf m set) (w .closed) (steps-good g set) start (w .start-in) (steps-rise set k) s e .harm .valid in
+          rw (
+            read (run g start (sentTrace s)) (run-in (w .closed) start (sentTrace s) (w .start-in) (sent-trace g (steps set k) (steps-good g set) s v)),
+            read (run g start (receivedTrace s)) (run-in (w .closed) start (receivedTrace s) (w .start-in) (received-trace g (steps set k) (steps-good g set) s v)),
+          )
+
+  pub table-answer : (room : ℕ) {r : Answer}
+      → r ≡ asks (roomQuestions (firstHarmful (automatonOf n k ts) (differing outs) (steps set k) start) room) (witnessFigures (λ q. getD outs q 0) (automatonOf n k ts) start (firstHarmful (automatonOf n k ts) (differing outs) (steps set k) start))
+      → r ≡ asks (roomQuestions (firstWitness m d set) room) (tableFigures m d set)
+  table-answer room e =
+      e
+      ∙ ap (λ (o : Option Series). asks (roomQuestions o room) (witnessFigures (λ q. getD outs q 0) (automatonOf n k ts) start o)) first-same
+      ∙ ap (asks (roomQuestions (firstWitness m d set) room)) figures-same
+
+  pub table-area : (r : Answer) (area : List ℕ) {after : List ℕ} → after ≡ written r (witnessTrace (firstHarmful (automatonOf n k ts) (differing outs) (steps set k) start)) area → after ≡ written r (witnessTrace (firstWitness m d set)) area
+  table-area r area e = e ∙ ap (λ (o : Option Series). written r (witnessTrace o) area) first-same
+
+-- the marks are what every state reads under reading 3
+module _ {limit n k start : ℕ} {vs ts : List ℕ} (t : Table limit n k start vs ts) where
+  marks-read : (q : ℕ) → q < n → getD vs q 0 ≡ reading (tableOf n k start vs ts) 3 q
+  unfolding reading
+  marks-read q l = refl
+
+  column-is : (set : ℕ) {r : ℕ} → r ≡ column (extentOf (firstHarmful (automatonOf n k ts) (differing vs) (steps set k) start)) → r ≡ column (distance (tableOf n k start vs ts) 3 set)
+  column-is set e = e ∙ ap (λ (o : Option Series). column (extentOf o)) (first-same t 3 set vs marks-read)
+
+  -- a column of the card for each fault alone
+  abbrev pub columnOf : ℕ → ℕ
+  columnOf set = column (extentOf (firstHarmful (automatonOf n k ts) (differing vs) (steps set k) start))
+
+  pub card-is : {y a b c d : ℕ} → y ≡ monitorability (tableOf n k start vs ts) → a ≡ columnOf 1 → b ≡ columnOf 2 → c ≡ columnOf 4 → d ≡ columnOf 8
+      → _≡_ {A = List ℕ} (n ∷ y ∷ a ∷ b ∷ c ∷ d ∷ []) (cardFigures (tableOf n k start vs ts))
+  card-is ey ea eb ec ed = rw (ey, column-is 1 ea, column-is 2 eb, column-is 4 ec, column-is 8 ed)

@@ -1,0 +1,71 @@
+-- `examine_set` meets its contract.
+use mathlib.Core.Path.{refl}
+use Prim.Native.Nat.{ℕ}
+use native.Mathlib.Omega.{arith}
+use lib.ListN.{length, getD}
+use borrow.Author.Needs.{needs}
+use Rattle.immunity.specs.Findings.{witnessValues}
+use Rattle.immunity.proofs.Made.{searched}
+use Rattle.immunity.proofs.Answers.{is-number, says-immune, says-no-room, says-vulnerable, immune-keeps, witness-fills}
+use Rattle.immunity.proofs.examine_set.Statement.{statement}
+use Rattle.immunity.proofs.examine_set.Tie as tie
+
+costs-requires : tie.Need-costs-requires
+costs-requires c κs = search needs
+
+settle-requires : tie.Need-settle-requires
+settle-requires c κs = (let r = c .before .costs .ensures in (c .before .before .before .before .before .pre .0, record { size = r .size; most = λ p l. r .each p l .most }))
+
+mul-distance : tie.Need-mul-distance
+mul-distance c = search needs
+
+array-read-distance : tie.Need-array-read-distance
+array-read-distance c = search needs
+
+returns : tie.Need-returns
+returns c =
+    let s = c .before .before .before .before .before .before .before in
+    let h = searched (s .args .set) (s .pre .0) (s .pre .3) (c .before .before .before .costs .ensures) (c .before .settle .ensures) in (
+      says-immune h (s .pre .2) (λ q. getD (s .args .outputs .now) q 0) (length (s .args .area .now)) (s .pre .0 .states-most) (omega (arith, c .if1 .taken)),
+      immune-keeps h (s .pre .2) (s .args .area .now) (s .pre .0 .states-most) (omega (arith, c .if1 .taken)),
+    )
+
+returns-2 : tie.Need-returns-2
+returns-2 c =
+    let s = c .before .before .before .before .before .before .before .before in
+    let h = searched (s .args .set) (s .pre .0) (s .pre .3) (c .before .before .before .before .costs .ensures) (c .before .before .settle .ensures) in
+    (says-no-room h (s .pre .2) (λ q. getD (s .args .outputs .now) q 0) (length (s .args .area .now)) (is-number h (s .pre .2) (c .before .if1 .left)) (c .if2 .taken), refl)
+
+witness-of-requires : tie.Need-witness-of-requires
+witness-of-requires c κs =
+    let s = c .before .before .before .before .before .before .before .before .before .before .before in
+    let h = searched (s .args .set) (s .pre .0) (s .pre .3) (c .before .before .before .before .before .before .before .costs .ensures) (c .before .before .before .before .before .settle .ensures) in
+    (s .pre .0, s .pre .1, s .pre .2, s .pre .3, c .before .before .before .before .before .before .before .costs .ensures, c .before .before .before .before .before .settle .ensures, is-number h (s .pre .2) (c .before .before .before .before .if1 .left), c .before .before .before .if2 .left)
+
+same-length : tie.Need-same-length
+same-length c = search needs
+
+returns-3 : tie.Need-returns-3
+returns-3 c =
+    let s = c .before .before .before .before .before .before .before .before .before .before .before .before .before .before in
+    let h = searched (s .args .set) (s .pre .0) (s .pre .3) (c .before .before .before .before .before .before .before .before .before .before .costs .ensures) (c .before .before .before .before .before .before .before .before .settle .ensures) in
+    let low = is-number h (s .pre .2) (c .before .before .before .before .before .before .before .if1 .left) in
+    let fits = c .before .before .before .before .before .before .if2 .left in
+    let w = c .before .before .witness-of in (
+      says-vulnerable h (s .pre .2) (λ q. getD (s .args .outputs .now) q 0) (length (s .args .area .now)) low fits (w .ensures .0),
+      witness-fills h (s .pre .2) (witnessValues (w .result)) (s .args .area .now) low fits (w .ensures .1),
+    )
+
+pub examine-set-spec : {M : Type 1} → statement M
+examine-set-spec =
+    tie.close
+    (tie.spec
+    costs-requires
+    settle-requires
+    mul-distance
+    array-read-distance
+    returns
+    returns-2
+    witness-of-requires
+    same-length
+    returns-3)

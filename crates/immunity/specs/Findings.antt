@@ -1,0 +1,83 @@
+-- The fault question and the card.
+use mathlib.Core.List.{List, [], _∷_, _++_}
+use mathlib.Core.Option.{Option, none, some}
+use Prim.Native.Nat.{ℕ}
+use lib.ListN.{length}
+use Rattle.theory.specs.Answer.{Question, Answer, refused, answered, asks}
+use Rattle.theory.specs.Automaton.{Automaton, run}
+use Rattle.theory.specs.Monitor.{Monitor, reading, monitorability}
+use Rattle.theory.specs.Series.{Series, sentTrace, receivedTrace}
+use Rattle.theory.specs.Distance.{Extent, number, missing, firstWitness, distance}
+use Rattle.monitor.specs.Format.{statesOf, monitorOf}
+use Rattle.monitor.specs.Questions.{tableQuestions, question9, question10, question13}
+use Rattle.immunity.specs.declared.Witness.{Witness}
+use Rattle.immunity.specs.declared.Finding.{Finding}
+use Rattle.immunity.specs.declared.Finding.the-variants.{Refused, Immune, Vulnerable}
+use Rattle.immunity.specs.declared.LinkCard.{LinkCard}
+use Rattle.immunity.specs.declared.Carded.{Carded}
+
+-- "The answer has the distance (sent length), the number of messages before the fault, its kind (the fixed bit), the replacement (0 except for corruption) and both readings."
+abbrev pub seriesFigures : (ℕ → ℕ) → Automaton → ℕ → Series → List ℕ
+seriesFigures read g q s = length (sentTrace s) ∷ length (s .before) ∷ s .fault .kind ∷ s .fault .replacement ∷ read (run g q (sentTrace s)) ∷ read (run g q (receivedTrace s)) ∷ []
+
+-- immune answers no values
+abbrev pub witnessFigures : (ℕ → ℕ) → Automaton → ℕ → Option Series → List ℕ
+witnessFigures read g q none = []
+witnessFigures read g q (some s) = seriesFigures read g q s
+
+-- what a table's fault question answers
+abbrev pub tableFigures : Monitor → ℕ → ℕ → List ℕ
+tableFigures m d set = witnessFigures (reading m d) (m .automaton) (m .start) (firstWitness m d set)
+
+-- "A witness fills the first bytes of the area with the sent trace"; "Immune also writes nothing."
+abbrev pub witnessTrace : Option Series → List ℕ
+witnessTrace none = []
+witnessTrace (some s) = sentTrace s
+
+-- 13, of the trace to be written
+abbrev pub roomQuestions : Option Series → ℕ → List Question
+roomQuestions w room = question13 (length (witnessTrace w)) room ∷ []
+
+-- a fault question asks 1 to 8, 9, 10, 13; `room` is the length of the area lent
+abbrev pub faultQuestions : ℕ → ℕ → Option Series → ℕ → List Question
+faultQuestions set d w room = question9 set ∷ question10 d ∷ roomQuestions w room
+
+-- the answer of the fault question
+unfoldable pub faultAnswer : ℕ → List ℕ → ℕ → ℕ → ℕ → Answer
+faultAnswer limit b set d room = asks (tableQuestions limit b ++ faultQuestions set d (firstWitness (monitorOf b) d set) room) (tableFigures (monitorOf b) d set)
+
+-- what stands in the area after an answer
+abbrev pub faultTrace : List ℕ → ℕ → ℕ → List ℕ
+faultTrace b set d = witnessTrace (firstWitness (monitorOf b) d set)
+
+-- 01's numbers of a finding
+abbrev pub witnessValues : Witness → List ℕ
+witnessValues w = w .distance ∷ w .before ∷ w .kind ∷ w .replacement ∷ w .sent ∷ w .received ∷ []
+
+abbrev pub finding : Finding → Answer
+finding (Refused r) = refused (r .number) (r .place)
+finding Immune = answered []
+finding (Vulnerable w) = answered (witnessValues w)
+
+-- ---- the card
+
+-- a distance in a column: 0 where it is missing (no distance is 0: every fault step covers a symbol)
+abbrev pub column : Extent → ℕ
+column missing = 0
+column (number l) = l
+
+-- the card of a table: n, monitorability, and the distances of loss, corruption, repeat and swap under reading 3
+abbrev pub cardFigures : Monitor → List ℕ
+cardFigures m = m .automaton .states ∷ monitorability m ∷ column (distance m 3 1) ∷ column (distance m 3 2) ∷ column (distance m 3 4) ∷ column (distance m 3 8) ∷ []
+
+-- a card asks 1 to 8
+unfoldable pub cardAnswer : ℕ → List ℕ → Answer
+cardAnswer limit b = asks (tableQuestions limit b) (cardFigures (monitorOf b))
+
+-- 01's numbers of a card
+abbrev pub cardValues : LinkCard → List ℕ
+cardValues c = c .states ∷ c .monitorability ∷ c .loss ∷ c .corruption ∷ c .repeat ∷ c .swap ∷ []
+
+abbrev pub carded : Carded → Answer
+carded (Carded.Card c) = answered (cardValues c)
+carded (Carded.Refused r) = refused (r .number) (r .place)

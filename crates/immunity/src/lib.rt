@@ -1,0 +1,264 @@
+// The fault question: immune, or vulnerable with the first witness; and the card of a table.
+use faults::FaultSet;
+use faults::NEVER;
+use monitor::Judgement;
+use monitor::Refusal;
+ghost use mathlib.Core.Path.{_≡_};
+ghost use mathlib.Core.Option.{some};
+ghost use Prim.Native.Nat.{ℕ, _≤_, _<_};
+ghost use lib.ListN.{length, getD};
+ghost use lib.Seq.{sets};
+ghost use Rattle.theory.specs.Answer.{Answer, asks, written};
+ghost use Rattle.theory.specs.Monitor.{stateLimit};
+ghost use Rattle.theory.specs.Faults.{steps};
+ghost use Rattle.theory.specs.Series.{Series, sentTrace};
+ghost use Rattle.theory.specs.Distance.{horizon, firstHarmful, firstWitness, extentOf};
+ghost use Rattle.monitor.specs.Format.{Rows, Table, automatonOf, tableOf};
+ghost use Rattle.pairs.specs.Square.{never, Squared, differing};
+ghost use Rattle.faults.specs.Steps.{Costs};
+ghost use Rattle.totals.specs.Totals.{Settled};
+ghost use Rattle.immunity.specs.Findings.{seriesFigures, witnessFigures, witnessTrace, roomQuestions, tableFigures, faultAnswer, faultTrace, witnessValues, finding, column, cardFigures, cardAnswer, cardValues, carded};
+
+// A witness whose sent trace stands in the area: its length, the symbols before the fault, the fault's bit, the replacement, and what the sent and the received trace read.
+pub struct Witness {
+    pub distance: usize,
+    pub before: usize,
+    pub kind: usize,
+    pub replacement: usize,
+    pub sent: usize,
+    pub received: usize,
+}
+
+pub enum Finding {
+    Refused(Refusal),
+    Immune,
+    Vulnerable(Witness),
+}
+
+// What the listing shows of a table. A distance is 0 where it is missing.
+pub struct LinkCard {
+    pub states: usize,
+    pub monitorability: usize,
+    pub loss: usize,
+    pub corruption: usize,
+    pub repeat: usize,
+    pub swap: usize,
+}
+
+pub enum Carded {
+    Card(LinkCard),
+    Refused(Refusal),
+}
+
+// The first witness from the start on. Its sent trace goes into the area.
+fn witness_of(
+    outputs: &[u8],
+    square: &[u16; 4096],
+    costs: &[usize; 64],
+    totals: &[usize; 64],
+    nexts: &[u8],
+    n: usize,
+    k: usize,
+    start: usize,
+    set: usize,
+    area: &mut [u8],
+) -> Witness
+    requires { ⌜ Rows stateLimit n k (now nexts) × (length (now outputs) ≡ n) × (start < n) × Squared (automatonOf n k (now nexts)) (differing (now outputs)) (now square) × Costs (automatonOf n k (now nexts)) (now square) (steps set k) n (now costs) × Settled (automatonOf n k (now nexts)) (now costs) (now totals) × (getD (now totals) start 0 < never) × (getD (now totals) start 0 ≤ length (now area)) ⌝ }
+    ensures figures { λ r. ⌜ ((s : Series) → firstHarmful (automatonOf n k (now (nexts .entry))) (differing (now (outputs .entry))) (steps set k) start ≡ some s → witnessValues r ≡ seriesFigures (λ q. getD (now (outputs .entry)) q 0) (automatonOf n k (now (nexts .entry))) start s) ⌝ }
+    ensures area { λ _. ⌜ ((s : Series) → firstHarmful (automatonOf n k (now (nexts .entry))) (differing (now (outputs .entry))) (steps set k) start ≡ some s → now (area .exit) ≡ sets (now (area .entry)) 0 (sentTrace s)) ⌝ }
+{
+    let approach = totals::write_before(totals, costs, nexts, n, k, start, area);
+    let state = approach.state;
+    let count = approach.count;
+    let choice = faults::best(square, nexts, n, k, set, state);
+    let fault = choice.fault;
+    faults::write_sent(fault, area, count);
+    let p = faults::after_sent(nexts, n, k, state, fault);
+    let q = faults::after_received(nexts, n, k, state, fault);
+    let end = pairs::write_apart(
+        square,
+        nexts,
+        n,
+        k,
+        p,
+        q,
+        area,
+        count + faults::covered(fault),
+    );
+    let sent = end.sent;
+    let received = end.received;
+    Witness {
+        distance: totals[start],
+        before: count,
+        kind: faults::bit_of(fault),
+        replacement: faults::replacement_of(fault),
+        sent: outputs[sent] as usize,
+        received: outputs[received] as usize,
+    }
+}
+
+// The finding for one fault set, from what all sets of a table and a reading share: the outputs of the states and the square of their distances.
+fn examine_set(
+    outputs: &[u8],
+    square: &[u16; 4096],
+    nexts: &[u8],
+    n: usize,
+    k: usize,
+    start: usize,
+    set: usize,
+    area: &mut [u8],
+) -> Finding
+    requires { ⌜ Rows stateLimit n k (now nexts) × (length (now outputs) ≡ n) × (start < n) × Squared (automatonOf n k (now nexts)) (differing (now outputs)) (now square) ⌝ }
+    ensures figures { λ r. ⌜ finding r ≡ asks (roomQuestions (firstHarmful (automatonOf n k (now (nexts .entry))) (differing (now (outputs .entry))) (steps set k) start) (length (now (area .entry)))) (witnessFigures (λ q. getD (now (outputs .entry)) q 0) (automatonOf n k (now (nexts .entry))) start (firstHarmful (automatonOf n k (now (nexts .entry))) (differing (now (outputs .entry))) (steps set k) start)) ⌝ }
+    ensures area { λ r. ⌜ now (area .exit) ≡ written (finding r) (witnessTrace (firstHarmful (automatonOf n k (now (nexts .entry))) (differing (now (outputs .entry))) (steps set k) start)) (now (area .entry)) ⌝ }
+{
+    let costs = faults::costs(square, nexts, n, k, set);
+    let mut totals = costs;
+    totals::settle(&mut totals, nexts, n, k);
+    let distance = totals[start];
+    if distance == NEVER {
+        return Finding::Immune;
+    }
+    if area.len() < distance {
+        return Finding::Refused(Refusal {
+            number: 13,
+            place: 0,
+        });
+    }
+    Finding::Vulnerable(witness_of(
+        outputs,
+        square,
+        &costs,
+        &totals,
+        nexts,
+        n,
+        k,
+        start,
+        set,
+        area,
+    ))
+}
+
+// The finding for an accepted table.
+fn examine_table(
+    marks: &[u8],
+    nexts: &[u8],
+    n: usize,
+    k: usize,
+    start: usize,
+    set: usize,
+    domain: usize,
+    area: &mut [u8],
+) -> Finding
+    requires { ⌜ Table stateLimit n k start (now marks) (now nexts) ⌝ }
+    ensures figures { λ r. ⌜ finding r ≡ asks (roomQuestions (firstWitness (tableOf n k start (now (marks .entry)) (now (nexts .entry))) domain set) (length (now (area .entry)))) (tableFigures (tableOf n k start (now (marks .entry)) (now (nexts .entry))) domain set) ⌝ }
+    ensures area { λ r. ⌜ now (area .exit) ≡ written (finding r) (witnessTrace (firstWitness (tableOf n k start (now (marks .entry)) (now (nexts .entry))) domain set)) (now (area .entry)) ⌝ }
+{
+    let mut outputs = [0u8; 64];
+    readings::write_readings(marks, nexts, n, k, domain, &mut outputs);
+    let read = &outputs[0..n];
+    let square = pairs::distances(nexts, n, k, read);
+    examine_set(read, &square, nexts, n, k, start, set, area)
+}
+
+// The fault question: whether one fault of the set can change what a trace of the table reads, by marks (domain 3) or by classes (domain 6).
+// The sent trace of a witness goes into the area, which is otherwise left as it was.
+pub fn examine(body: &[u8], set: usize, domain: usize, area: &mut [u8]) -> Finding
+    ensures figures { λ r. ⌜ finding r ≡ faultAnswer stateLimit (now (body .entry)) set domain (length (now (area .entry))) ⌝ }
+    ensures area { λ _. ⌜ now (area .exit) ≡ written (faultAnswer stateLimit (now (body .entry)) set domain (length (now (area .entry)))) (faultTrace (now (body .entry)) set domain) (now (area .entry)) ⌝ }
+{
+    match monitor::judge(body) {
+        Judgement::Refused(r) => {
+            return Finding::Refused(r);
+        }
+        Judgement::Accepted => {}
+    }
+    if set > FaultSet::ALL {
+        return Finding::Refused(Refusal {
+            number: 9,
+            place: 0,
+        });
+    }
+    if !readings::is_reading(domain) {
+        return Finding::Refused(Refusal {
+            number: 10,
+            place: 0,
+        });
+    }
+    let marks = monitor::drawn_marks(body);
+    let nexts = monitor::next_states(body);
+    let n = monitor::byte_at(body, 0);
+    let k = monitor::byte_at(body, 1);
+    let start = monitor::byte_at(body, 2);
+    examine_table(marks, nexts, n, k, start, set, domain, area)
+}
+
+// An area that every witness fits.
+fn scratch() -> [u8; 4162]
+    ensures { λ r. ⌜ length r ≡ horizon stateLimit ⌝ }
+{
+    [0u8; 4162]
+}
+
+// The distance under one fault set, 0 where it is missing.
+fn distance_in(
+    marks: &[u8],
+    square: &[u16; 4096],
+    nexts: &[u8],
+    n: usize,
+    k: usize,
+    start: usize,
+    set: usize,
+) -> usize
+    requires { ⌜ Rows stateLimit n k (now nexts) × (length (now marks) ≡ n) × (start < n) × Squared (automatonOf n k (now nexts)) (differing (now marks)) (now square) ⌝ }
+    ensures { λ r. ⌜ r ≡ column (extentOf (firstHarmful (automatonOf n k (now (nexts .entry))) (differing (now (marks .entry))) (steps set k) start)) ⌝ }
+{
+    let mut area = scratch();
+    let Finding::Vulnerable(witness) = examine_set(
+        marks,
+        square,
+        nexts,
+        n,
+        k,
+        start,
+        set,
+        &mut area,
+    ) else {
+        return 0;
+    };
+    witness.distance
+}
+
+// The card of an accepted table. Its square is made once for all four faults.
+fn card_of(marks: &[u8], nexts: &[u8], n: usize, k: usize, start: usize) -> LinkCard
+    requires { ⌜ Table stateLimit n k start (now marks) (now nexts) ⌝ }
+    ensures { λ r. ⌜ cardValues r ≡ cardFigures (tableOf n k start (now (marks .entry)) (now (nexts .entry))) ⌝ }
+{
+    let square = pairs::distances(nexts, n, k, marks);
+    LinkCard {
+        states: n,
+        monitorability: classes::monitorability_of(marks, nexts, n, k, start),
+        loss: distance_in(marks, &square, nexts, n, k, start, FaultSet::LOSS),
+        corruption: distance_in(marks, &square, nexts, n, k, start, FaultSet::CORRUPTION),
+        repeat: distance_in(marks, &square, nexts, n, k, start, FaultSet::REPEAT),
+        swap: distance_in(marks, &square, nexts, n, k, start, FaultSet::SWAP),
+    }
+}
+
+// The card of a table: its states, its monitorability, and its distances under each fault alone, by marks.
+pub fn card(body: &[u8]) -> Carded
+    ensures { λ r. ⌜ carded r ≡ cardAnswer stateLimit (now (body .entry)) ⌝ }
+{
+    match monitor::judge(body) {
+        Judgement::Refused(r) => {
+            return Carded::Refused(r);
+        }
+        Judgement::Accepted => {}
+    }
+    let marks = monitor::drawn_marks(body);
+    let nexts = monitor::next_states(body);
+    let n = monitor::byte_at(body, 0);
+    let k = monitor::byte_at(body, 1);
+    let start = monitor::byte_at(body, 2);
+    Carded::Card(card_of(marks, nexts, n, k, start))
+}

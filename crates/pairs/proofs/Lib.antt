@@ -1,0 +1,4 @@
+pub mod Entries
+pub mod Rounds
+pub mod Path
+pub mod Walk

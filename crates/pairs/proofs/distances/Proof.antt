@@ -1,0 +1,27 @@
+-- `distances` meets its contract.
+use native.Mathlib.Omega.{arith}
+use borrow.Author.Needs.{needs}
+use Rattle.monitor.proofs.Rows.{next-of-rows}
+use Rattle.pairs.proofs.Entries.{begins-differing, begun-fresh}
+use Rattle.pairs.proofs.Rounds.{squared-same}
+use Rattle.pairs.proofs.distances.Statement.{statement}
+use Rattle.pairs.proofs.distances.Tie as tie
+
+blank-requires : tie.Need-blank-requires
+blank-requires c κs = search needs
+
+begin-requires : tie.Need-begin-requires
+begin-requires c κs = search needs
+
+refine-requires : tie.Need-refine-requires
+refine-requires c κs =
+    let pre = c .before .before .before .before .before .before .pre in
+    (pre .0, begun-fresh (omega (arith, pre .0 .states-most, pre .1)) (pre .1) (c .before .begin .ensures))
+
+returns : tie.Need-returns
+returns c =
+    let pre = c .before .before .before .before .before .before .before .pre in
+    squared-same (next-of-rows (pre .0)) (begins-differing (omega (arith, pre .0 .states-most, pre .1)) (pre .1) (c .before .before .begin .ensures)) (c .refine .ensures)
+
+pub distances-spec : {M : Type 1} → statement M
+distances-spec = tie.close (tie.spec blank-requires begin-requires refine-requires returns)

@@ -1,0 +1,62 @@
+-- `refine_row` meets its contract: the pairs up to column q of row p have had the round, and at most each place counted one.
+use mathlib.Core.Bool.{Bool}
+use Prim.Native.Nat.{ℕ, _+_, _*_, _-_, _≤_}
+use native.Mathlib.Nat.{add-zero}
+use native.Mathlib.Omega.{arith}
+use borrow.Author.Needs.{needs}
+use Rattle.theory.specs.Monitor.{stateLimit}
+use Rattle.monitor.specs.Format.{automatonOf}
+use Rattle.monitor.proofs.Rows.{next-of-rows}
+use Rattle.pairs.specs.Square.{adds, Midway}
+use Rattle.pairs.proofs.Rounds.{one-at-most, midway-turn, midway-row}
+use Rattle.pairs.proofs.refine_row.Statement.{statement}
+use Rattle.pairs.proofs.refine_row.Tie as tie
+
+abbrev Inv-loop : tie.InvT-loop
+Inv-loop square₀ nexts n k r p added count₀ q₀ square count q =
+    (q ≤ n) × (count ≤ p * stateLimit + q)
+    × ((ends : ℕ → ℕ → Bool) → Midway (automatonOf n k nexts) ends r (p * stateLimit) added square₀ → Midway (automatonOf n k nexts) ends r (p * stateLimit + q) count square)
+
+abbrev μ-loop : tie.MeasureT-loop
+μ-loop square₀ nexts n k r p added count₀ q₀ square count q = n - q
+
+loop-holds : tie.Need-loop-holds Inv-loop μ-loop
+loop-holds c = (search needs, search needs, λ ends w. rw (add-zero _) w)
+
+refine-pair-requires : tie.Need-refine-pair-requires Inv-loop μ-loop
+refine-pair-requires c κs = search needs
+
+add-count : tie.Need-add-count Inv-loop μ-loop
+add-count c =
+    let s = c .before .before .before .before .before in
+    let at = c .before .before .before .loop in
+    omega (arith, at .inv .1, s .pre .0 .states-most, s .pre .2, one-at-most (adds (automatonOf (s .args .n) (s .args .k) (s .args .nexts .now)) (at .square) (s .args .r) (s .args .p) (at .q)) (c .refine-pair .ensures .0))
+
+add-q : tie.Need-add-q Inv-loop μ-loop
+add-q c = search needs
+
+loop-less : tie.Need-loop-less Inv-loop μ-loop
+loop-less c = search needs
+
+loop-again : tie.Need-loop-again Inv-loop μ-loop
+loop-again c =
+    let s = c .before .before .before .before .before in
+    let at = c .before .before .before .loop in
+    let new = c .refine-pair .ensures in (
+      search needs,
+      omega (arith, at .inv .1, one-at-most (adds (automatonOf (s .args .n) (s .args .k) (s .args .nexts .now)) (at .square) (s .args .r) (s .args .p) (at .q)) (new .0)),
+      λ ends w. midway-turn (next-of-rows (s .pre .0)) (s .pre .0 .states-most) (s .pre .1) (s .args .p) (at .q) (s .pre .2) (c .before .before .loop-test .taken) (at .inv .2 ends w) (new .0) (new .1),
+    )
+
+returns : tie.Need-returns Inv-loop μ-loop
+returns c =
+    let s = c .before .before .before in
+    let at = c .before .loop in (
+      omega (arith, at .inv .0, at .inv .1, s .pre .0 .states-most),
+      λ ends w. midway-row (next-of-rows (s .pre .0)) (s .pre .0 .states-most) (s .args .p) (at .q) (at .inv .2 ends w) (at .inv .0) (c .loop-test .left),
+    )
+
+pub refine-row-spec : {M : Type 1} → statement M
+refine-row-spec =
+    tie.close
+    (tie.spec Inv-loop μ-loop loop-holds refine-pair-requires add-count add-q loop-less loop-again returns)

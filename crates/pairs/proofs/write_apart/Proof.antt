@@ -1,0 +1,95 @@
+-- `write_apart` meets its contract: what is written and what is still to be written make up the whole path.
+use native.Mathlib.Omega.{arith}
+use borrow.Author.Needs.{needs}
+use Rattle.monitor.specs.Format.{automatonOf}
+use Rattle.monitor.proofs.Rows.{next-of-rows}
+use Rattle.pairs.proofs.Walk.{Walk, walk-begins, walk-length, walk-ends, walk-symbol, walk-goes-on}
+use Rattle.pairs.proofs.write_apart.Statement.{statement}
+use Rattle.pairs.proofs.write_apart.Tie as tie
+
+abbrev Inv-loop : tie.InvT-loop
+Inv-loop square nexts n k p q area₀ at x₀ y₀ i₀ left₀ area x y i left = Walk (automatonOf n k nexts) square p q area₀ at area x y i left
+
+abbrev μ-loop : tie.MeasureT-loop
+μ-loop square nexts n k p q area₀ at x₀ y₀ i₀ left₀ area x y i left = left
+
+entry-at-requires : tie.Need-entry-at-requires Inv-loop μ-loop
+entry-at-requires c κs =
+    let s = c .before .before .pre in
+    (omega (arith, s .0 .states-most, s .2), omega (arith, s .0 .states-most, s .3))
+
+loop-holds : tie.Need-loop-holds Inv-loop μ-loop
+loop-holds c =
+    let s = c .before .before .before .pre in
+    walk-begins (s .2) (s .3) (c .entry-at .ensures .0) (s .4) (s .5)
+
+sub-left : tie.Need-sub-left Inv-loop μ-loop
+sub-left c = search needs
+
+nearer-by-requires : tie.Need-nearer-by-requires Inv-loop μ-loop
+nearer-by-requires c κs =
+    let w = c .before .loop .inv in
+    (c .before .before .before .before .before .pre .0, w .first-in, w .second-in)
+
+cast-area : tie.Need-cast-area Inv-loop μ-loop
+cast-area c =
+    let s = c .before .before .before .before .before .before .pre in
+    omega (arith, s .0 .symbols-most, walk-symbol (c .before .before .loop .inv) (s .1) (c .before .loop-test .taken) (c .nearer-by .ensures))
+
+slice-write-area : tie.Need-slice-write-area Inv-loop μ-loop
+slice-write-area c = search needs
+
+successor-requires : tie.Need-successor-requires Inv-loop μ-loop
+successor-requires c κs =
+    let s = c .before .before .before .before .before .before .pre in
+    let w = c .before .before .loop .inv in
+    (s .0, w .first-in, walk-symbol w (s .1) (c .before .loop-test .taken) (c .nearer-by .ensures))
+
+successor-requires-2 : tie.Need-successor-requires-2 Inv-loop μ-loop
+successor-requires-2 c κs =
+    let s = c .before .before .before .before .before .before .before .pre in
+    let w = c .before .before .before .loop .inv in
+    (s .0, w .second-in, walk-symbol w (s .1) (c .before .before .loop-test .taken) (c .before .nearer-by .ensures))
+
+add-i : tie.Need-add-i Inv-loop μ-loop
+add-i c =
+    let w = c .before .before .before .before .loop .inv in
+    omega (arith, w .room, c .before .before .before .loop-test .taken, walk-length w, c .before .before .before .before .before .before .before .before .good .1 .1 .1 .1 .1 .1 .0 .0)
+
+loop-less : tie.Need-loop-less Inv-loop μ-loop
+loop-less c = search needs
+
+loop-again : tie.Need-loop-again Inv-loop μ-loop
+loop-again c =
+    let s = c .before .before .before .before .before .before .before .before .pre in
+    walk-goes-on (c .before .before .before .before .loop .inv) (s .1) (c .before .before .before .loop-test .taken) (next-of-rows (s .0))
+    (c .before .before .nearer-by .ensures) (c .before .successor .ensures .0) (c .successor2 .ensures .0)
+
+same-length : tie.Need-same-length Inv-loop μ-loop
+same-length c = walk-length (c .before .loop .inv)
+
+returns : tie.Need-returns Inv-loop μ-loop
+returns c =
+    let w = c .before .loop .inv in
+    let e = walk-ends w (omega arith) in
+    (e .0, ((e .1, w .first-in), (e .2, w .second-in)))
+
+pub write-apart-spec : {M : Type 1} → statement M
+write-apart-spec =
+    tie.close
+    (tie.spec
+    Inv-loop
+    μ-loop
+    entry-at-requires
+    loop-holds
+    sub-left
+    nearer-by-requires
+    cast-area
+    slice-write-area
+    successor-requires
+    successor-requires-2
+    add-i
+    loop-less
+    loop-again
+    same-length
+    returns)

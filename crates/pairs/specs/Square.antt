@@ -1,0 +1,105 @@
+-- The square of pair distances as the search holds it: row by row, the greatest two-byte number where a pair is not told apart.
+use mathlib.Core.Path.{_≡_}
+use mathlib.Core.Bool.{Bool, true, false, cond, not, _&&_}
+use mathlib.Core.List.{List, [], _∷_}
+use mathlib.Core.Logic.{_⊎_}
+use Prim.Native.Nat.{ℕ, zero, suc, _+_, _*_, _≤_, _<_}
+use lib.Dec.{eqb, leb}
+use lib.ListN.{length, getD}
+use Rattle.theory.specs.Below.{any, first}
+use Rattle.theory.specs.Automaton.{Automaton}
+use Rattle.theory.specs.Monitor.{stateLimit}
+use Rattle.theory.specs.Distance.{Shortest}
+use Rattle.theory.specs.Pairs.{Tells, told}
+
+-- "not told apart"
+abbrev pub never : ℕ
+never = 65535
+
+-- "all 4,096 pairs of states stand in one square"
+abbrev pub squareSize : ℕ
+squareSize = stateLimit * stateLimit
+
+-- what stands in the square for the states p and q
+abbrev pub entry : List ℕ → ℕ → ℕ → ℕ
+entry d p q = getD d (p * stateLimit + q) 0
+
+-- e notes the length of the shortest list with the property, or that there is none
+pub record Noted (P : List ℕ → Type 0) (e : ℕ) : Type 0 where
+  pub most : e ≤ never
+  pub found : e < never → Shortest P e
+  pub none : e ≡ never → (w : List ℕ) → P w → ⊥
+
+-- the square d holds the distance of every pair of states: "a pair's distance is the fewest messages after which its two states read differently", here: pass the test
+pub record Squared (g : Automaton) (ends : ℕ → ℕ → Bool) (d : List ℕ) : Type 0 where
+  pub size : length d ≡ squareSize
+  pub noted : (p q : ℕ) → p < g .states → q < g .states → Noted (Tells g ends p q) (entry d p q)
+
+-- ---- what the functions below require of each other
+
+-- two states whose outputs differ
+abbrev pub differing : List ℕ → ℕ → ℕ → Bool
+differing outs p q = not (eqb (getD outs p 0) (getD outs q 0))
+
+-- the entry of a pair before the first round, by its outputs
+abbrev pub begun : List ℕ → ℕ → ℕ → ℕ
+begun outs p q = cond (eqb (getD outs p 0) (getD outs q 0)) never 0
+
+-- some symbol leads from p and q to a pair told apart within r
+abbrev pub leadsWithin : Automaton → List ℕ → ℕ → ℕ → ℕ → Bool
+leadsWithin g d r p q = any (g .symbols) (λ a. leb (entry d (g .next p a) (g .next q a)) r)
+
+-- the round after r adds the pair
+abbrev pub adds : Automaton → List ℕ → ℕ → ℕ → ℕ → Bool
+adds g d r p q = eqb (entry d p q) never && leadsWithin g d r p q
+
+-- the square before the first round, up to place i (row by row)
+pub record Begun (outs : List ℕ) (i : ℕ) (d : List ℕ) : Type 0 where
+  pub size : length d ≡ squareSize
+  pub done : (p q : ℕ) → p < length outs → q < length outs → p * stateLimit + q < i → entry d p q ≡ begun outs p q
+
+-- the test that a square begins with: the pair is at 0
+abbrev pub begins : List ℕ → ℕ → ℕ → Bool
+begins d p q = eqb (entry d p q) 0
+
+-- every pair is at 0 or not told apart
+pub record Fresh (n : ℕ) (d : List ℕ) : Type 0 where
+  pub size : length d ≡ squareSize
+  pub either : (p q : ℕ) → p < n → q < n → (entry d p q ≡ 0) ⊎ (entry d p q ≡ never)
+
+-- after r rounds: e is how many symbols tell p and q apart where at most r do, and never where they do not
+pub record Stage (g : Automaton) (ends : ℕ → ℕ → Bool) (r p q e : ℕ) : Type 0 where
+  pub agrees : (s : ℕ) → s ≤ r → told g ends s p q ≡ leb e s
+  pub known : (e ≤ r) ⊎ (e ≡ never)
+
+-- two states told apart within r + 1 symbols and not within r
+pub record New (g : Automaton) (ends : ℕ → ℕ → Bool) (r : ℕ) : Type 0 where
+  pub first : ℕ
+  pub second : ℕ
+  pub first-in : first < g .states
+  pub second-in : second < g .states
+  pub not-yet : told g ends r first second ≡ false
+  pub now : told g ends (suc r) first second ≡ true
+
+-- the square in the middle of the round after r: the pairs before place i (row by row) have had it, the others not; `added` counts those that are new
+pub record Midway (g : Automaton) (ends : ℕ → ℕ → Bool) (r i added : ℕ) (d : List ℕ) : Type 0 where
+  pub size : length d ≡ squareSize
+  pub done : (p q : ℕ) → p < g .states → q < g .states → p * stateLimit + q < i → Stage g ends (suc r) p q (entry d p q)
+  pub rest : (p q : ℕ) → p < g .states → q < g .states → i ≤ p * stateLimit + q → Stage g ends r p q (entry d p q)
+  pub still : added ≡ 0 → (p q : ℕ) → p < g .states → q < g .states → p * stateLimit + q < i → told g ends (suc r) p q ≡ told g ends r p q
+  pub moved : 0 < added → New g ends r
+
+-- ---- the first of the shortest traces that tell two states apart
+
+-- the lowest symbol from p and q to a pair with the entry e, or the number of symbols
+abbrev pub nearer : Automaton → List ℕ → ℕ → ℕ → ℕ → ℕ
+nearer g d e p q = first (λ a. eqb (entry d (g .next p a) (g .next q a)) e) 0 (g .symbols)
+
+-- from each pair that is told apart some symbol leads one nearer
+pub record Falling (g : Automaton) (d : List ℕ) : Type 0 where
+  pub falls : (p q e : ℕ) → p < g .states → q < g .states → entry d p q ≡ suc e → suc e < never → nearer g d e p q < g .symbols
+
+-- the symbols that lead from p and q, at e, to a pair at 0
+unfoldable pub path : Automaton → List ℕ → ℕ → ℕ → ℕ → List ℕ
+path g d zero p q = []
+path g d (suc e) p q = nearer g d e p q ∷ path g d e (g .next p (nearer g d e p q)) (g .next q (nearer g d e p q))

@@ -1,0 +1,243 @@
+// The square of pair distances: for every two states, the fewest symbols that tell them apart.
+use theory::STATE_LIMIT;
+ghost use mathlib.Core.Path.{_≡_};
+ghost use mathlib.Core.Bool.{Bool, cond};
+ghost use Prim.Native.Nat.{ℕ, _+_, _*_, _≤_, _<_};
+ghost use lib.ListN.{length, getD, set};
+ghost use lib.Seq.{sets};
+ghost use lib.Dec.{eqb};
+ghost use Rattle.theory.specs.Automaton.{run};
+ghost use Rattle.theory.specs.Monitor.{stateLimit};
+ghost use Rattle.monitor.specs.Format.{Rows, automatonOf};
+ghost use Rattle.pairs.specs.Square.{never, squareSize, entry, Squared, differing, Begun, begins, Fresh, leadsWithin, adds, Midway, nearer, Falling, path};
+
+// A pair that is not told apart.
+pub const NEVER: u16 = 65535;
+
+// Two states, reached by the sent and by the received trace.
+pub struct Pair {
+    pub sent: usize,
+    pub received: usize,
+}
+
+// A square in which no pair is told apart.
+fn blank() -> [u16; 4096]
+    ensures { λ r. ⌜ length r ≡ squareSize ⌝ }
+{
+    [NEVER; 4096]
+}
+
+fn wide(entry: u16) -> usize
+    ensures { λ r. ⌜ (r ≡ entry) × (r < 65536) ⌝ }
+{
+    entry as usize
+}
+
+// What the square holds for two states.
+pub fn entry_at(square: &[u16; 4096], p: usize, q: usize) -> usize
+    requires { ⌜ (p < stateLimit) × (q < stateLimit) ⌝ }
+    ensures { λ r. ⌜ (r ≡ entry (now (square .entry)) p q) × (r ≤ never) ⌝ }
+{
+    wide(square[p * STATE_LIMIT + q])
+}
+
+// The entry before the first round, of two states with these outputs.
+fn begun_with(a: u8, b: u8) -> u16
+    ensures { λ r. ⌜ r ≡ cond (eqb a b) never 0 ⌝ }
+{
+    if a == b {
+        return NEVER;
+    }
+    0
+}
+
+// Enters 0 in row p for each state whose output differs from that of p.
+fn begin_row(square: &mut [u16; 4096], outputs: &[u8], p: usize)
+    requires { ⌜ (length (now outputs) ≤ stateLimit) × (p < length (now outputs)) × Begun (now outputs) (p * stateLimit) (now square) ⌝ }
+    ensures { λ _. ⌜ Begun (now (outputs .entry)) ((p + 1) * stateLimit) (now (square .exit)) ⌝ }
+{
+    let mut q = 0;
+    while q < outputs.len() {
+        square[p * STATE_LIMIT + q] = begun_with(outputs[p], outputs[q]);
+        q += 1;
+    }
+}
+
+// The square before the first round: states whose outputs differ are told apart by no symbol.
+fn begin(square: &mut [u16; 4096], outputs: &[u8])
+    requires { ⌜ (length (now outputs) ≤ stateLimit) × (length (now square) ≡ squareSize) ⌝ }
+    ensures { λ _. ⌜ Begun (now (outputs .entry)) (length (now (outputs .entry)) * stateLimit) (now (square .exit)) ⌝ }
+{
+    let mut p = 0;
+    while p < outputs.len() {
+        begin_row(square, outputs, p);
+        p += 1;
+    }
+}
+
+// Whether some symbol leads from p and q to a pair told apart within r.
+fn leads_within(
+    square: &[u16; 4096],
+    nexts: &[u8],
+    n: usize,
+    k: usize,
+    r: u16,
+    p: usize,
+    q: usize,
+) -> bool
+    requires { ⌜ Rows stateLimit n k (now nexts) × (p < n) × (q < n) ⌝ }
+    ensures { λ b. ⌜ b ≡ leadsWithin (automatonOf n k (now (nexts .entry))) (now (square .entry)) r p q ⌝ }
+{
+    let mut a = 0;
+    while a < k {
+        let x = monitor::successor(nexts, n, k, p, a);
+        let y = monitor::successor(nexts, n, k, q, a);
+        if square[x * STATE_LIMIT + y] <= r {
+            return true;
+        }
+        a += 1;
+    }
+    false
+}
+
+// The round after r at one pair. Returns 1 where the pair is new, else 0.
+fn refine_pair(
+    square: &mut [u16; 4096],
+    nexts: &[u8],
+    n: usize,
+    k: usize,
+    r: u16,
+    p: usize,
+    q: usize,
+) -> usize
+    requires { ⌜ Rows stateLimit n k (now nexts) × (r + 1 < never) × (p < n) × (q < n) ⌝ }
+    ensures added { λ b. ⌜ b ≡ cond (adds (automatonOf n k (now (nexts .entry))) (now (square .entry)) r p q) 1 0 ⌝ }
+    ensures square { λ _. ⌜ now (square .exit) ≡ cond (adds (automatonOf n k (now (nexts .entry))) (now (square .entry)) r p q) (set (now (square .entry)) (p * stateLimit + q) (r + 1)) (now (square .entry)) ⌝ }
+{
+    if square[p * STATE_LIMIT + q] != NEVER {
+        return 0;
+    }
+    if leads_within(square, nexts, n, k, r, p, q) {
+        square[p * STATE_LIMIT + q] = r + 1;
+        return 1;
+    }
+    0
+}
+
+// The round after r in row p. Counts on from `added` the pairs that are new.
+fn refine_row(
+    square: &mut [u16; 4096],
+    nexts: &[u8],
+    n: usize,
+    k: usize,
+    r: u16,
+    p: usize,
+    added: usize,
+) -> usize
+    requires { ⌜ Rows stateLimit n k (now nexts) × (r + 1 < never) × (p < n) × (added ≤ p * stateLimit) ⌝ }
+    ensures few { λ b. ⌜ b ≤ (p + 1) * stateLimit ⌝ }
+    ensures round { λ b. ⌜ ((ends : ℕ → ℕ → Bool) → Midway (automatonOf n k (now (nexts .entry))) ends r (p * stateLimit) added (now (square .entry)) → Midway (automatonOf n k (now (nexts .entry))) ends r ((p + 1) * stateLimit) b (now (square .exit))) ⌝ }
+{
+    let mut count = added;
+    let mut q = 0;
+    while q < n {
+        count += refine_pair(square, nexts, n, k, r, p, q);
+        q += 1;
+    }
+    count
+}
+
+// The round after r: every pair that is not told apart within r symbols, and is within r + 1. Returns how many are new.
+fn refine_all(square: &mut [u16; 4096], nexts: &[u8], n: usize, k: usize, r: u16) -> usize
+    requires { ⌜ Rows stateLimit n k (now nexts) × (r + 1 < never) ⌝ }
+    ensures { λ b. ⌜ ((ends : ℕ → ℕ → Bool) → Midway (automatonOf n k (now (nexts .entry))) ends r 0 0 (now (square .entry)) → Midway (automatonOf n k (now (nexts .entry))) ends r (n * stateLimit) b (now (square .exit))) ⌝ }
+{
+    let mut added = 0;
+    let mut p = 0;
+    while p < n {
+        added = refine_row(square, nexts, n, k, r, p, added);
+        p += 1;
+    }
+    added
+}
+
+// Round by round until a round adds nothing: from a square that holds 0 for some pairs to the distances of all pairs from those.
+pub fn refine(square: &mut [u16; 4096], nexts: &[u8], n: usize, k: usize)
+    requires { ⌜ Rows stateLimit n k (now nexts) × Fresh n (now square) ⌝ }
+    ensures { λ _. ⌜ Squared (automatonOf n k (now (nexts .entry))) (begins (now (square .entry))) (now (square .exit)) ⌝ }
+{
+    let mut r: u16 = 0;
+    while refine_all(square, nexts, n, k, r) > 0 {
+        r += 1;
+    }
+}
+
+// The distance of every two states: the fewest symbols after which their outputs differ.
+pub fn distances(nexts: &[u8], n: usize, k: usize, outputs: &[u8]) -> [u16; 4096]
+    requires { ⌜ Rows stateLimit n k (now nexts) × (length (now outputs) ≡ n) ⌝ }
+    ensures { λ r. ⌜ Squared (automatonOf n k (now (nexts .entry))) (differing (now (outputs .entry))) r ⌝ }
+{
+    let mut square = blank();
+    begin(&mut square, outputs);
+    refine(&mut square, nexts, n, k);
+    square
+}
+
+// The lowest symbol that leads from p and q to a pair at `distance`, or the number of symbols.
+fn nearer_by(
+    square: &[u16; 4096],
+    nexts: &[u8],
+    n: usize,
+    k: usize,
+    distance: usize,
+    p: usize,
+    q: usize,
+) -> usize
+    requires { ⌜ Rows stateLimit n k (now nexts) × (p < n) × (q < n) ⌝ }
+    ensures { λ r. ⌜ r ≡ nearer (automatonOf n k (now (nexts .entry))) (now (square .entry)) distance p q ⌝ }
+{
+    let mut a = 0;
+    while a < k {
+        let x = monitor::successor(nexts, n, k, p, a);
+        let y = monitor::successor(nexts, n, k, q, a);
+        if entry_at(square, x, y) == distance {
+            return a;
+        }
+        a += 1;
+    }
+    a
+}
+
+// Writes the first of the shortest traces that tell p and q apart into the area, from `at` on, and returns where it leads.
+pub fn write_apart(
+    square: &[u16; 4096],
+    nexts: &[u8],
+    n: usize,
+    k: usize,
+    p: usize,
+    q: usize,
+    area: &mut [u8],
+    at: usize,
+) -> Pair
+    requires { ⌜ Rows stateLimit n k (now nexts) × Falling (automatonOf n k (now nexts)) (now square) × (p < n) × (q < n) × (entry (now square) p q < never) × (at + entry (now square) p q ≤ length (now area)) ⌝ }
+    ensures area { λ _. ⌜ now (area .exit) ≡ sets (now (area .entry)) at (path (automatonOf n k (now (nexts .entry))) (now (square .entry)) (entry (now (square .entry)) p q) p q) ⌝ }
+    ensures sent { λ r. ⌜ (r .sent ≡ run (automatonOf n k (now (nexts .entry))) p (path (automatonOf n k (now (nexts .entry))) (now (square .entry)) (entry (now (square .entry)) p q) p q)) × (r .sent < n) ⌝ }
+    ensures received { λ r. ⌜ (r .received ≡ run (automatonOf n k (now (nexts .entry))) q (path (automatonOf n k (now (nexts .entry))) (now (square .entry)) (entry (now (square .entry)) p q) p q)) × (r .received < n) ⌝ }
+{
+    let mut x = p;
+    let mut y = q;
+    let mut i = at;
+    let mut left = entry_at(square, p, q);
+    while left > 0 {
+        left -= 1;
+        let a = nearer_by(square, nexts, n, k, left, x, y);
+        area[i] = a as u8;
+        x = monitor::successor(nexts, n, k, x, a);
+        y = monitor::successor(nexts, n, k, y, a);
+        i += 1;
+    }
+    Pair {
+        sent: x,
+        received: y,
+    }
+}

@@ -1,0 +1,66 @@
+-- `onward_by` meets its contract: none of the symbols passed leads to a state with this total.
+use Prim.Native.Nat.{_-_}
+use native.Mathlib.Omega.{arith}
+use borrow.Author.Needs.{needs}
+use Rattle.theory.proofs.Scan.{Passed, scan-begins, scan-goes-on, scan-finds, scan-ends}
+use Rattle.monitor.specs.Format.{automatonOf}
+use Rattle.totals.proofs.Walk.{leadsToTotal, leads-there, leads-elsewhere}
+use Rattle.totals.proofs.onward_by.Statement.{statement}
+use Rattle.totals.proofs.onward_by.Tie as tie
+
+abbrev Inv-loop : tie.InvT-loop
+Inv-loop totals nexts n k total p a₀ a = Passed (leadsToTotal (automatonOf n k nexts) totals total p) 0 k a
+
+abbrev μ-loop : tie.MeasureT-loop
+μ-loop totals nexts n k total p a₀ a = k - a
+
+loop-holds : tie.Need-loop-holds Inv-loop μ-loop
+loop-holds c = scan-begins _ _ _
+
+successor-requires : tie.Need-successor-requires Inv-loop μ-loop
+successor-requires c κs = search needs
+
+mul-if1 : tie.Need-mul-if1 Inv-loop μ-loop
+mul-if1 c = search needs
+
+element-copy-out-if1 : tie.Need-element-copy-out-if1 Inv-loop μ-loop
+element-copy-out-if1 c = search needs
+
+returns : tie.Need-returns Inv-loop μ-loop
+returns c =
+    let a = c .before .before .before .before .before .before .args in
+    let at = c .before .before .before .before .loop in
+    scan-finds (at .inv)
+    (leads-there (automatonOf (a .n) (a .k) (a .nexts .now)) (a .totals .now) (a .total) (a .p) (at .a) (c .before .before .successor .ensures .0) (c .if1 .taken))
+
+add-a : tie.Need-add-a Inv-loop μ-loop
+add-a c = search needs
+
+loop-less : tie.Need-loop-less Inv-loop μ-loop
+loop-less c = search needs
+
+loop-again : tie.Need-loop-again Inv-loop μ-loop
+loop-again c =
+    let a = c .before .before .before .before .before .before .args in
+    let at = c .before .before .before .before .loop in
+    scan-goes-on (at .inv) (omega (arith, c .before .before .before .loop-test .taken))
+    (leads-elsewhere (automatonOf (a .n) (a .k) (a .nexts .now)) (a .totals .now) (a .total) (a .p) (at .a) (c .before .before .successor .ensures .0) (c .if1 .left))
+
+returns-2 : tie.Need-returns-2 Inv-loop μ-loop
+returns-2 c = scan-ends (c .before .loop .inv) (omega (arith, c .loop-test .left))
+
+pub onward-by-spec : {M : Type 1} → statement M
+onward-by-spec =
+    tie.close
+    (tie.spec
+    Inv-loop
+    μ-loop
+    loop-holds
+    successor-requires
+    mul-if1
+    element-copy-out-if1
+    returns
+    add-a
+    loop-less
+    loop-again
+    returns-2)

@@ -1,0 +1,33 @@
+-- `settle` meets its contract: each round but the last takes from the sum of the totals.
+use native.Mathlib.Omega.{arith}
+use borrow.Author.Needs.{needs}
+use Rattle.monitor.specs.Format.{automatonOf}
+use Rattle.totals.specs.Totals.{sum}
+use Rattle.totals.proofs.Lowering.{Rounds, rounds-begin, rounds-go-on, rounds-end}
+use Rattle.totals.proofs.settle.Statement.{statement}
+use Rattle.totals.proofs.settle.Tie as tie
+
+abbrev Inv-loop : tie.InvT-loop
+Inv-loop totals₀ nexts n k totals = Rounds (automatonOf n k nexts) totals₀ totals
+
+abbrev μ-loop : tie.MeasureT-loop
+μ-loop totals₀ nexts n k totals = sum n totals
+
+loop-holds : tie.Need-loop-holds Inv-loop μ-loop
+loop-holds c = rounds-begin (c .before .pre .1)
+
+lower-all-requires : tie.Need-lower-all-requires Inv-loop μ-loop
+lower-all-requires c κs = search needs
+
+loop-less : tie.Need-loop-less Inv-loop μ-loop
+loop-less c = omega (arith, c .before .lower-all .ensures .falls, c .if1 .taken)
+
+loop-again : tie.Need-loop-again Inv-loop μ-loop
+loop-again c = rounds-go-on (c .before .before .before .loop .inv) (c .before .lower-all .ensures)
+
+returns : tie.Need-returns Inv-loop μ-loop
+returns c = rounds-end (c .before .before .before .loop .inv) (c .before .lower-all .ensures) (c .if1 .left)
+
+pub settle-spec : {M : Type 1} → statement M
+settle-spec =
+    tie.close (tie.spec Inv-loop μ-loop loop-holds lower-all-requires loop-less loop-again returns)

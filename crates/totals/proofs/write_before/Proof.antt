@@ -1,0 +1,97 @@
+-- `write_before` meets its contract: what is written with what is still to be written is the whole.
+use native.Mathlib.Omega.{arith}
+use borrow.Author.Needs.{needs}
+use Rattle.monitor.specs.Format.{automatonOf}
+use Rattle.monitor.proofs.Rows.{next-of-rows}
+use Rattle.totals.proofs.Walk.{Walk, walk-begins, walk-left, walk-symbol, walk-goes-on, walk-written, walk-count, walk-state, walk-cost}
+use Rattle.totals.proofs.write_before.Statement.{statement}
+use Rattle.totals.proofs.write_before.Tie as tie
+
+abbrev Inv-loop : tie.InvT-loop
+Inv-loop totals costs nexts n k start area₀ p₀ i₀ left₀ area p i left = Walk (automatonOf n k nexts) totals costs start area₀ area p i left
+
+abbrev μ-loop : tie.MeasureT-loop
+μ-loop totals costs nexts n k start area₀ p₀ i₀ left₀ area p i left = left
+
+mul-left : tie.Need-mul-left Inv-loop μ-loop
+mul-left c = search needs
+
+element-copy-out-left : tie.Need-element-copy-out-left Inv-loop μ-loop
+element-copy-out-left c = search needs
+
+loop-holds : tie.Need-loop-holds Inv-loop μ-loop
+loop-holds c =
+    let a = c .before .before .before .args in
+    let pre = c .before .before .before .pre in
+    walk-begins (automatonOf (a .n) (a .k) (a .nexts .now)) (a .totals .now) (a .costs .now) (pre .2) (pre .3)
+
+mul-if1 : tie.Need-mul-if1 Inv-loop μ-loop
+mul-if1 c = search needs
+
+element-copy-out-if1 : tie.Need-element-copy-out-if1 Inv-loop μ-loop
+element-copy-out-if1 c = search needs
+
+sub-left : tie.Need-sub-left Inv-loop μ-loop
+sub-left c = walk-left (c .before .before .loop .inv) (c .before .before .before .before .before .before .pre .1) (c .if1 .taken)
+
+onward-by-requires : tie.Need-onward-by-requires Inv-loop μ-loop
+onward-by-requires c κs = search needs
+
+cast-area : tie.Need-cast-area Inv-loop μ-loop
+cast-area c =
+    let pre = c .before .before .before .before .before .before .before .pre in
+    omega (arith, walk-symbol (c .before .before .before .loop .inv) (pre .1) (c .before .if1 .taken) (c .onward-by .ensures), pre .0 .symbols-most)
+
+slice-write-area : tie.Need-slice-write-area Inv-loop μ-loop
+slice-write-area c =
+    let pre = c .before .before .before .before .before .before .before .pre in
+    let inv = c .before .before .before .loop .inv in
+    omega (arith, walk-left inv (pre .1) (c .before .if1 .taken), inv .total, inv .size, pre .4)
+
+successor-requires : tie.Need-successor-requires Inv-loop μ-loop
+successor-requires c κs =
+    let pre = c .before .before .before .before .before .before .before .pre in
+    let inv = c .before .before .before .loop .inv in
+    (pre .0, inv .inside, walk-symbol inv (pre .1) (c .before .if1 .taken) (c .onward-by .ensures))
+
+add-i : tie.Need-add-i Inv-loop μ-loop
+add-i c = omega (arith, c .before .before .before .before .loop .inv .total, c .before .before .before .before .before .before .before .before .pre .3)
+
+loop-less : tie.Need-loop-less Inv-loop μ-loop
+loop-less c = omega (arith, walk-left (c .before .before .before .before .loop .inv) (c .before .before .before .before .before .before .before .before .pre .1) (c .before .before .if1 .taken))
+
+loop-again : tie.Need-loop-again Inv-loop μ-loop
+loop-again c =
+    let pre = c .before .before .before .before .before .before .before .before .pre in
+    walk-goes-on (c .before .before .before .before .loop .inv) (pre .1) (c .before .before .if1 .taken) (c .before .onward-by .ensures) (next-of-rows (pre .0)) (c .successor .ensures .0)
+
+same-length : tie.Need-same-length Inv-loop μ-loop
+same-length c = c .before .before .loop .inv .size
+
+returns : tie.Need-returns Inv-loop μ-loop
+returns c =
+    let w = c .before .before .loop .inv in
+    let e = c .if1 .left in
+    (walk-written w e, (walk-count w e, ((walk-state w e, w .inside), walk-cost w e)))
+
+pub write-before-spec : {M : Type 1} → statement M
+write-before-spec =
+    tie.close
+    (tie.spec
+    Inv-loop
+    μ-loop
+    mul-left
+    element-copy-out-left
+    loop-holds
+    mul-if1
+    element-copy-out-if1
+    sub-left
+    onward-by-requires
+    cast-area
+    slice-write-area
+    successor-requires
+    add-i
+    loop-less
+    loop-again
+    same-length
+    returns)
