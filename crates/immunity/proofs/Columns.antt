@@ -1,7 +1,7 @@
 -- The distance in a column of the card: read off a finding whose area every witness fits.
 use mathlib.Core.Path.{_≡_, refl, sym, ap, _∙_}
 use mathlib.Core.Bool.{Bool}
-use mathlib.Core.List.{List, [], _∷_}
+use mathlib.Core.List.{[], _∷_}
 use mathlib.Core.Logic.{_⊎_, ⊎-elim}
 use mathlib.Core.Option.{Option, none, some}
 use Prim.Native.Nat.{ℕ, _*_, _≤_, _<_, zero-le}
@@ -19,11 +19,10 @@ use Rattle.theory.specs.Series.{Series, sentTrace}
 use Rattle.theory.specs.Distance.{horizon, firstHarmful, extentOf}
 use Rattle.theory.proofs.Faults.{steps-good, steps-rise}
 use Rattle.theory.proofs.Witness.{first-harms}
-use Rattle.monitor.specs.declared.Refusal.{Refusal}
 use Rattle.immunity.specs.declared.Witness.{Witness}
 use Rattle.immunity.specs.declared.Finding.{Finding}
 use Rattle.immunity.specs.declared.Finding.the-variants.{Refused, Immune, Vulnerable}
-use Rattle.immunity.specs.Findings.{witnessFigures, witnessTrace, roomQuestions, finding, column}
+use Rattle.immunity.specs.Findings.{witnessFigures, roomQuestions, finding, column}
 use Rattle.immunity.proofs.Finding as the-finding
 
 -- the first value of an answer

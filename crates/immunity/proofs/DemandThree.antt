@@ -1,21 +1,18 @@
 -- Demand 3, proved of every accepted table, any two fault sets, and both readings.
-use mathlib.Core.Path.{_≡_, refl, sym, ap, _∙_, subst}
-use mathlib.Core.Bool.{Bool, true, false, cond, _||_}
+use mathlib.Core.Path.{_≡_, refl, ap, subst}
 use mathlib.Core.List.{List, [], _++_}
 use mathlib.Core.Option.{Option, none, some}
 use Prim.Native.Nat.{ℕ}
-use lib.Dec.{eqb, leb}
-use lib.ListN.{length}
-use Rattle.theory.specs.Answer.{Answer, refused, answered, asks}
+use Rattle.theory.specs.Answer.{answered}
 use Rattle.theory.specs.Monitor.{reading, stateLimit}
-use Rattle.theory.specs.Series.{Series, sentTrace}
+use Rattle.theory.specs.Series.{Series}
 use Rattle.theory.specs.Distance.{extentOf, firstWitness}
 use Rattle.theory.proofs.Answer.{asks-values}
 use Rattle.theory.proofs.Distance.{distance-exact, missing-joined, distance-together, distance-several, six-at-most-three, witness-first}
 use Rattle.monitor.specs.Format.{monitorOf}
 use Rattle.monitor.specs.Questions.{judgeAnswer, tableQuestions}
 use Rattle.monitor.proofs.Accepted.{accepted-table}
-use Rattle.immunity.specs.Findings.{seriesFigures, witnessFigures, witnessTrace, faultQuestions, tableFigures, faultAnswer}
+use Rattle.immunity.specs.Findings.{witnessFigures, witnessTrace, faultQuestions, tableFigures, faultAnswer}
 use Rattle.immunity.specs.DemandThree.{Found, immune, vulnerable, DemandThree}
 
 module _ (b : List ℕ) (e : judgeAnswer stateLimit b ≡ answered []) (F d : ℕ) where

@@ -1,19 +1,19 @@
 -- The witness as it is made: the way to the fault, the fault step, and the path after it are the first harmful series.
-use mathlib.Core.Path.{_≡_, refl, sym, ap, _∙_, subst}
+use mathlib.Core.Path.{_≡_, sym, ap, _∙_, subst}
 use mathlib.Core.Bool.{Bool}
 use mathlib.Core.List.{List, [], _∷_, _++_}
 use mathlib.Core.Logic.{⊎-elim}
 use mathlib.Core.Option.{some}
-use Prim.Native.Nat.{ℕ, zero, suc, _+_, _≤_, _<_}
+use Prim.Native.Nat.{ℕ, suc, _+_, _≤_, _<_}
 use native.Mathlib.Nat.{add-zero, add-suc, suc-add, le-antisymm}
 use native.Mathlib.Omega.{arith}
 use lib.Dec.{eqb}
 use lib.ListN.{length, getD, set}
 use lib.Seq.{sets, length-sets}
 use borrow.Author.Tests.{eqb-true}
-use Rattle.theory.specs.Lists.{In, find}
+use Rattle.theory.specs.Lists.{find}
 use Rattle.theory.specs.Automaton.{Automaton, Closed, run}
-use Rattle.theory.specs.Faults.{FaultStep, kinds, steps}
+use Rattle.theory.specs.Faults.{FaultStep, steps}
 use Rattle.theory.specs.Series.{Series, sentTrace, receivedTrace}
 use Rattle.theory.specs.Distance.{firstHarmful}
 use Rattle.theory.proofs.Below.{lt-or-le}
@@ -28,7 +28,7 @@ use Rattle.faults.specs.declared.Choice.{Choice}
 use Rattle.faults.specs.Steps.{stepFor, Ranged, costOf, Best, Costs}
 use Rattle.totals.specs.Totals.{Settled, approach}
 use Rattle.immunity.specs.Findings.{seriesFigures}
-use Rattle.immunity.proofs.Search.{madeOf, search-finds, cost-sum}
+use Rattle.immunity.proofs.Search.{search-finds, cost-sum}
 
 pub sets-append : (l : List ℕ) (i : ℕ) (xs ys : List ℕ) → sets (sets l i xs) (i + length xs) ys ≡ sets l i (xs ++ ys)
 sets-append l i [] ys = ap (λ (j : ℕ). sets l j ys) (add-zero i)

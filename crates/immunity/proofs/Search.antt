@@ -1,33 +1,33 @@
 -- What the square, the costs and the totals say together: the distance of a state, and the first harmful series from it.
-use mathlib.Core.Path.{_≡_, refl, sym, ap, _∙_, subst}
+use mathlib.Core.Path.{_≡_, refl, sym, _∙_, subst}
 use mathlib.Core.Bool.{Bool, true, false, cond}
 use mathlib.Core.List.{List, [], _∷_, _++_, map, flatMap}
 use mathlib.Core.Logic.{_⊎_, inl, inr, ⊎-elim}
-use mathlib.Core.Option.{Option, none, some}
+use mathlib.Core.Option.{none, some}
 use Prim.Native.Nat.{ℕ, zero, suc, _+_, _-_, _*_, _≤_, _<_, zero-le}
 use native.Mathlib.Nat.{le-refl, mul-le-mul}
 use native.Mathlib.Omega.{arith}
-use lib.Dec.{eqb, leb, ltb}
-use lib.ListN.{length, getD, length-append}
-use borrow.Author.Tests.{eqb-true, eqb-false, eq-eqb, ne-eqb, le-leb, lt-ltb, le-ltb, ltb-false}
+use lib.Dec.{eqb, ltb}
+use lib.ListN.{length, getD}
+use borrow.Author.Tests.{eqb-true, eqb-false, eq-eqb, le-leb, ltb-false}
 use Rattle.theory.specs.Below.{first}
 use Rattle.theory.specs.Lists.{In, find, each}
 use Rattle.theory.specs.Automaton.{Automaton, Closed, Trace, run}
 use Rattle.theory.specs.Monitor.{stateLimit}
 use Rattle.theory.specs.Pairs.{Tells}
 use Rattle.theory.specs.Faults.{FaultStep, steps}
-use Rattle.theory.specs.Series.{Series, Valid, sentTrace, receivedTrace, harmful, words, struck, plain, series}
+use Rattle.theory.specs.Series.{Series, sentTrace, harmful, words, struck, plain, series}
 use Rattle.theory.specs.Distance.{horizon, firstHarmful}
-use Rattle.theory.proofs.Below.{clash, not-clash, lt-or-le, first-below, first-here, first-le}
-use Rattle.theory.proofs.Lists.{find-none, find-in, find-here, find-later, find-each, find-map, find-map-none, find-flatMap, find-flatMap-none, find-same, in-map}
+use Rattle.theory.proofs.Below.{clash, not-clash, lt-or-le, first-below, first-here}
+use Rattle.theory.proofs.Lists.{find-none, find-in, find-here, find-later, find-each, find-map, find-map-none, find-flatMap, find-flatMap-none, find-same}
 use Rattle.theory.proofs.Reach.{run-in, run-append}
 use Rattle.theory.proofs.Faults.{Good, steps-good}
 use Rattle.theory.proofs.Series.{begin, series-in, struck-is}
 use Rattle.theory.proofs.Witness.{Harm, harm-tells, tells-harm, sent-length, near, found-first, found-none}
 use Rattle.pairs.specs.Square.{never, entry, Squared, path}
-use Rattle.pairs.proofs.Path.{noted-least, apartBy, path-length, path-first}
-use Rattle.faults.specs.Steps.{plus, costOf, Cheapest, Costs}
-use Rattle.totals.specs.Totals.{least, leastAfter, lowers, Attained, Settled, onward, approach, Leading}
+use Rattle.pairs.proofs.Path.{noted-least, apartBy, path-first}
+use Rattle.faults.specs.Steps.{plus, costOf, Costs}
+use Rattle.totals.specs.Totals.{least, leastAfter, Attained, Settled, onward, approach, Leading}
 use Rattle.totals.proofs.Least.{least-le}
 
 plus-at-most : (l e : ℕ) → plus l e ≤ l + e

@@ -10,7 +10,7 @@ use Rattle.theory.specs.Answer.{answered}
 use Rattle.theory.specs.Monitor.{Monitor, reading, stateLimit}
 use Rattle.theory.specs.Faults.{holds}
 use Rattle.theory.specs.Series.{Series, sentTrace}
-use Rattle.theory.specs.Distance.{Extent, number, missing, smaller, AtMost, Joined, Distance, DistanceOfSeveral, FirstWitness, reads, faultsOf, distance}
+use Rattle.theory.specs.Distance.{number, missing, smaller, AtMost, Joined, Distance, DistanceOfSeveral, FirstWitness, reads, faultsOf, distance}
 use Rattle.monitor.specs.Format.{monitorOf}
 use Rattle.immunity.specs.Findings.{seriesFigures, faultAnswer, faultTrace}
 

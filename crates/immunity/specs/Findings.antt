@@ -8,7 +8,7 @@ use Rattle.theory.specs.Automaton.{Automaton, run}
 use Rattle.theory.specs.Monitor.{Monitor, reading, monitorability}
 use Rattle.theory.specs.Series.{Series, sentTrace, receivedTrace}
 use Rattle.theory.specs.Distance.{Extent, number, missing, firstWitness, distance}
-use Rattle.monitor.specs.Format.{statesOf, monitorOf}
+use Rattle.monitor.specs.Format.{monitorOf}
 use Rattle.monitor.specs.Questions.{tableQuestions, question9, question10, question13}
 use Rattle.immunity.specs.declared.Witness.{Witness}
 use Rattle.immunity.specs.declared.Finding.{Finding}

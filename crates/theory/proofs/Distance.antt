@@ -10,14 +10,13 @@ use native.Mathlib.Omega.{arith}
 use lib.Bits.{bitOr}
 use lib.Dec.{eqb}
 use lib.ListN.{length, length-append, getD}
-use borrow.Author.Tests.{eqb-true, eqb-false, eq-eqb, ne-eqb, not-true, not-false}
+use borrow.Author.Tests.{eqb-true, eqb-false, ne-eqb, not-true}
 use Rattle.theory.specs.Lists.{In}
 use Rattle.theory.specs.Automaton.{Automaton, Trace, run, leads}
 use Rattle.theory.specs.Monitor.{Monitor, WellFormed, classFrom, class, reading, marked}
 use Rattle.theory.specs.Faults.{FaultStep, holds, steps}
 use Rattle.theory.specs.Series.{Series, sentTrace, receivedTrace, Precedes}
-use Rattle.theory.specs.Distance.{Extent, number, missing, ShortestLength, smaller, AtMost, Faulted, Joined, itself, forth, back, Chained, end, then, differ, reads, faultsOf, Harmed, HarmedBySeveral, Distance, DistanceOfSeveral, Witness, FirstWitness, firstWitness, distance}
-use Rattle.theory.proofs.Below.{clash, is-true}
+use Rattle.theory.specs.Distance.{number, missing, smaller, AtMost, Faulted, Joined, itself, forth, back, Chained, end, then, differ, reads, faultsOf, Harmed, HarmedBySeveral, Distance, DistanceOfSeveral, Witness, FirstWitness, firstWitness, distance}
 use Rattle.theory.proofs.Reach.{run-in}
 use Rattle.theory.proofs.Faults.{Good, steps-good, steps-shrink, steps-rise, together, first-of-two, second-of-two}
 use Rattle.theory.proofs.Witness.{sent-trace, received-trace, First, first-harms, extent-exact}

@@ -1,18 +1,18 @@
 -- What every fault step of a set is like, shown once for all kinds; and the list of a set's steps rises in the written order.
 use mathlib.Core.Path.{_≡_, refl, sym, ap, _∙_, subst}
-use mathlib.Core.Bool.{Bool, true, false, cond, _||_}
+use mathlib.Core.Bool.{Bool, true, false, cond}
 use mathlib.Core.List.{List, [], _∷_}
 use mathlib.Core.Logic.{_⊎_, inl, inr, ⊎-elim}
 use Prim.Native.Nat.{ℕ, zero, suc, _≤_, _<_, _^_}
 use native.Mathlib.Nat.{le-refl}
 use native.Mathlib.Omega.{arith}
 use lib.Bits.{bitOr}
-use lib.Dec.{lit<}
 use lib.ListN.{length}
+use lib.Pow.{pow-lt}
 use Rattle.theory.specs.Lists.{In, each, Rising}
 use Rattle.theory.specs.Automaton.{Automaton, Trace}
 use Rattle.theory.specs.Faults.{FaultStep, kinds, stepOf, seconds, holds, stepsOfKind, steps}
-use Rattle.theory.specs.Series.{Lower, StepFirst}
+use Rattle.theory.specs.Series.{StepFirst}
 use Rattle.theory.proofs.Below.{clash, or-cases, or-left, or-right}
 use Rattle.theory.proofs.Lists.{each-in, in-each, rising-each}
 use Rattle.theory.proofs.Bits.{bit-or}
@@ -111,21 +111,6 @@ kind-is (suc (suc zero)) a b l = refl
 kind-is (suc (suc (suc zero))) a b l = refl
 kind-is (suc (suc (suc (suc c)))) a b l = absurd (omega arith)
 
-kinds-rise : (c e : ℕ) → c < e → e < kinds → 2 ^ c < 2 ^ e
-kinds-rise c zero l m = absurd (omega arith)
-kinds-rise zero (suc zero) l m = lit< tt
-kinds-rise zero (suc (suc zero)) l m = lit< tt
-kinds-rise zero (suc (suc (suc zero))) l m = lit< tt
-kinds-rise (suc zero) (suc zero) l m = absurd (omega arith)
-kinds-rise (suc zero) (suc (suc zero)) l m = lit< tt
-kinds-rise (suc zero) (suc (suc (suc zero))) l m = lit< tt
-kinds-rise (suc (suc c)) (suc zero) l m = absurd (omega arith)
-kinds-rise (suc (suc zero)) (suc (suc zero)) l m = absurd (omega arith)
-kinds-rise (suc (suc zero)) (suc (suc (suc zero))) l m = lit< tt
-kinds-rise (suc (suc (suc c))) (suc (suc zero)) l m = absurd (omega arith)
-kinds-rise (suc (suc (suc c))) (suc (suc (suc zero))) l m = absurd (omega arith)
-kinds-rise c (suc (suc (suc (suc e)))) l m = absurd (omega arith)
-
 -- of one kind: a lower first symbol stands first, and then a lower second one
 firsts-rise : (c a e b f : ℕ) → a < e → StepFirst (stepOf c a b) (stepOf c e f)
 firsts-rise zero a e b f l = inr (refl, inl (inl l))
@@ -171,6 +156,6 @@ steps-rise set k = rising-each StepFirst kinds (ofKind set k) (λ c _. one c (ho
         ap (λ (s : FaultStep). s .kind) (only x (stepOf c (a .index) (b .index)) (b .here)) ∙ kind-is c (a .index) (b .index) l
 
     two : (c e : ℕ) → c < e → e < kinds → (p q : Bool) (x y : FaultStep) → In x (cond p (stepsOfKind k c) []) → In y (cond q (stepsOfKind k e) []) → StepFirst x y
-    two c e l m true true x y i j = (let u = in-kind c x (omega arith) i in let v = in-kind e y m j in let r = kinds-rise c e l m in inl (omega (arith, u, v, r)))
+    two c e l m true true x y i j = (let u = in-kind c x (omega arith) i in let v = in-kind e y m j in let r = pow-lt l in inl (omega (arith, u, v, r)))
     two c e l m true false x y i j = absurd j
     two c e l m false q x y i j = absurd i

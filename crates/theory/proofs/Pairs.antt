@@ -1,6 +1,6 @@
 -- `told` says exactly that some trace tells two states apart; with n states, n * n symbols are enough.
 use mathlib.Core.Path.{_≡_, refl, sym, ap, _∙_, subst}
-use mathlib.Core.Bool.{Bool, true, false, _||_}
+use mathlib.Core.Bool.{Bool, true, _||_}
 use mathlib.Core.List.{List, [], _∷_}
 use mathlib.Core.Logic.{⊎-elim}
 use Prim.Native.Nat.{ℕ, zero, suc, _+_, _-_, _*_, _/_, _%_, _≤_, _<_, zero-le, suc-le-suc}
@@ -11,7 +11,7 @@ use lib.Arith.{digits-lt, digits-div, digits-mod}
 use Rattle.theory.specs.Below.{any}
 use Rattle.theory.specs.Automaton.{Automaton, Closed, Trace, run}
 use Rattle.theory.specs.Pairs.{Tells, told}
-use Rattle.theory.proofs.Below.{clash, both-ways, lt-or-le, or-cases, or-left, or-right, any-at, any-find, any-same}
+use Rattle.theory.proofs.Below.{lt-or-le, or-cases, or-left, or-right, any-at, any-find, any-same}
 use Rattle.theory.proofs.Settle.{settled}
 use Rattle.theory.proofs.Reach.{run-in}
 

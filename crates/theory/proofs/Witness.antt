@@ -1,8 +1,8 @@
 -- The first harmful series up to the horizon is the first of all, and where there is none up to the horizon there is none at all.
 -- Shown for any test of the two states reached, any state q to begin with, and any list of fault steps that rises.
 use mathlib.Core.Path.{_≡_, refl, sym, ap, _∙_, subst}
-use mathlib.Core.Bool.{Bool, true, false, _&&_}
-use mathlib.Core.List.{List, [], _∷_, _++_}
+use mathlib.Core.Bool.{Bool, true, _&&_}
+use mathlib.Core.List.{List, _++_}
 use mathlib.Core.Logic.{_⊎_, inl, inr, ⊎-elim}
 use mathlib.Core.Option.{Option, none, some}
 use Prim.Native.Nat.{ℕ, suc, _+_, _*_, _≤_, _<_, suc-le-suc}
@@ -10,14 +10,14 @@ use native.Mathlib.Nat.{le-refl}
 use native.Mathlib.Omega.{arith}
 use lib.Dec.{eqb}
 use lib.ListN.{length, length-append}
-use borrow.Author.Tests.{eqb-true, eq-eqb}
+use borrow.Author.Tests.{eqb-true}
 use Rattle.theory.specs.Below.{any}
 use Rattle.theory.specs.Lists.{In, find, each, Rising}
 use Rattle.theory.specs.Automaton.{Automaton, Closed, Trace, run, reachedFrom}
 use Rattle.theory.specs.Pairs.{Tells, told}
 use Rattle.theory.specs.Faults.{FaultStep}
 use Rattle.theory.specs.Series.{Series, Valid, sentTrace, receivedTrace, harmful, StepFirst, Precedes, series}
-use Rattle.theory.specs.Distance.{Extent, number, missing, Shortest, ShortestLength, Faulted, HarmedFrom, horizon, firstHarmful, extentOf}
+use Rattle.theory.specs.Distance.{ShortestLength, HarmedFrom, horizon, firstHarmful, extentOf}
 use Rattle.theory.proofs.Below.{clash, not-clash, and-both, lt-or-le, any-at}
 use Rattle.theory.proofs.Lists.{InEach, each-in, in-each, find-in, find-none, find-each, find-each-more, find-same, none-passes, find-first}
 use Rattle.theory.proofs.Reach.{run-in, run-append, trace-append, leads-short, reached-complete}
