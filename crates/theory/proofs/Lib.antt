@@ -8,6 +8,7 @@ pub mod Settle
 pub mod Reach
 pub mod Exact
 pub mod Pairs
+pub mod Order
 pub mod Series
 pub mod Faults
 pub mod Witness
