@@ -14,7 +14,7 @@ use Rattle.theory.specs.Monitor.{stateLimit}
 use Rattle.theory.specs.Faults.{steps}
 use Rattle.theory.specs.Answer.{Answer, refused, answered, asks, written}
 use Rattle.theory.specs.Series.{Series, sentTrace}
-use Rattle.theory.specs.Distance.{firstHarmful}
+use Rattle.theory.specs.Computed.{firstHarmful}
 use Rattle.theory.proofs.Below.{lt-or-le}
 use Rattle.theory.proofs.Faults.{steps-good, steps-rise}
 use Rattle.theory.proofs.Witness.{none-harms, first-harms, first-least}

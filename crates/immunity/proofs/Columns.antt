@@ -16,7 +16,7 @@ use Rattle.theory.specs.Monitor.{stateLimit}
 use Rattle.theory.specs.Faults.{steps}
 use Rattle.theory.specs.Answer.{Answer, refused, answered, asks}
 use Rattle.theory.specs.Series.{Series, sentTrace}
-use Rattle.theory.specs.Distance.{horizon, firstHarmful, extentOf}
+use Rattle.theory.specs.Computed.{horizon, firstHarmful, extentOf}
 use Rattle.theory.proofs.Faults.{steps-good, steps-rise}
 use Rattle.theory.proofs.Witness.{first-harms}
 use Rattle.immunity.specs.declared.Witness.{Witness}

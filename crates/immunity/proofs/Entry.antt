@@ -8,7 +8,7 @@ use lib.ListN.{length}
 use borrow.Author.Tests.{le-leb, lt-leb}
 use Rattle.theory.specs.Answer.{Answer, refused, answered, asks, written}
 use Rattle.theory.specs.Monitor.{Monitor}
-use Rattle.theory.specs.Distance.{firstWitness}
+use Rattle.theory.specs.Computed.{firstWitness}
 use Rattle.theory.proofs.Answer.{untouched}
 use Rattle.monitor.specs.declared.Refusal.{Refusal}
 use Rattle.monitor.specs.declared.Judgement.{Judgement}

@@ -15,7 +15,7 @@ use Rattle.theory.specs.Lists.{find}
 use Rattle.theory.specs.Automaton.{Automaton, Closed, run}
 use Rattle.theory.specs.Faults.{FaultStep, steps}
 use Rattle.theory.specs.Series.{Series, sentTrace, receivedTrace}
-use Rattle.theory.specs.Distance.{firstHarmful}
+use Rattle.theory.specs.Computed.{firstHarmful}
 use Rattle.theory.proofs.Below.{lt-or-le}
 use Rattle.theory.proofs.Lists.{find-in, some-same}
 use Rattle.theory.proofs.Witness.{run-parts, sent-length}

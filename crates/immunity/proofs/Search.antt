@@ -17,7 +17,7 @@ use Rattle.theory.specs.Monitor.{stateLimit}
 use Rattle.theory.specs.Pairs.{Tells}
 use Rattle.theory.specs.Faults.{FaultStep, steps}
 use Rattle.theory.specs.Series.{Series, sentTrace, harmful, words, struck, plain, series}
-use Rattle.theory.specs.Distance.{horizon, firstHarmful}
+use Rattle.theory.specs.Computed.{horizon, firstHarmful}
 use Rattle.theory.proofs.Below.{clash, not-clash, lt-or-le, first-below, first-here}
 use Rattle.theory.proofs.Lists.{find-none, find-in, find-here, find-later, find-each, find-map, find-map-none, find-flatMap, find-flatMap-none, find-same}
 use Rattle.theory.proofs.Reach.{run-in, run-append}

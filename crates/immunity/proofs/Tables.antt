@@ -4,6 +4,7 @@ use mathlib.Core.List.{List, [], _∷_, _++_}
 use mathlib.Core.Option.{Option, none, some}
 use Prim.Native.Nat.{ℕ, _-_, _<_}
 use native.Mathlib.Omega.{arith}
+use lib.Bits.{bitOr}
 use lib.ListN.{getD, take}
 use lib.Seq.{getD-take}
 use Rattle.theory.specs.Below.{values}
@@ -12,7 +13,8 @@ use Rattle.theory.specs.Monitor.{Monitor, reading, monitorability}
 use Rattle.theory.specs.Faults.{steps}
 use Rattle.theory.specs.Answer.{Answer, asks, written}
 use Rattle.theory.specs.Series.{Series, sentTrace, receivedTrace}
-use Rattle.theory.specs.Distance.{differ, faultsOf, firstHarmful, firstWitness, extentOf, distance}
+use Rattle.theory.specs.Distance.{differ, faultsOf}
+use Rattle.theory.specs.Computed.{firstHarmful, firstWitness, extentOf, distance}
 use Rattle.theory.proofs.Values.{getD-filled}
 use Rattle.theory.proofs.Reach.{run-in}
 use Rattle.theory.proofs.Faults.{steps-good, steps-rise}
@@ -73,6 +75,10 @@ module _ {limit n k start : ℕ} {vs ts : List ℕ} (t : Table limit n k start v
   -- a column of the card for each fault alone
   abbrev pub columnOf : ℕ → ℕ
   columnOf set = column (extentOf (firstHarmful (automatonOf n k ts) (differing vs) (steps set k) start))
+
+  -- a set built by adding one kind to the empty set
+  pub alone : (kind : ℕ) {e w r : ℕ} → e ≡ 0 → w ≡ bitOr e kind → r ≡ columnOf w → r ≡ columnOf kind
+  alone kind ee ew er = er ∙ rw (ew, ee)
 
   pub card-is : {y a b c d : ℕ} → y ≡ monitorability (tableOf n k start vs ts) → a ≡ columnOf 1 → b ≡ columnOf 2 → c ≡ columnOf 4 → d ≡ columnOf 8
       → _≡_ {A = List ℕ} (n ∷ y ∷ a ∷ b ∷ c ∷ d ∷ []) (cardFigures (tableOf n k start vs ts))

@@ -4,13 +4,13 @@ use mathlib.Core.Bool.{false}
 use mathlib.Core.List.{List, []}
 use mathlib.Core.Logic.{_↔_}
 use Prim.Native.Nat.{ℕ}
-use lib.Bits.{bitOr}
 use lib.ListN.{length}
 use Rattle.theory.specs.Answer.{answered}
-use Rattle.theory.specs.Monitor.{Monitor, reading, stateLimit}
-use Rattle.theory.specs.Faults.{holds}
+use Rattle.theory.specs.Monitor.{Monitor, reading}
+use Rattle.theory.specs.Faults.{holds, repetition, together}
 use Rattle.theory.specs.Series.{Series, sentTrace}
-use Rattle.theory.specs.Distance.{number, missing, smaller, AtMost, Joined, Distance, DistanceOfSeveral, FirstWitness, reads, faultsOf, distance}
+use Rattle.theory.specs.Distance.{Extent, number, missing, smaller, AtMost, Joined, Distance, DistanceOfSeveral, FirstWitness, reads, faultsOf}
+use Rattle.theory.specs.Computed.{distance}
 use Rattle.monitor.specs.Format.{monitorOf}
 use Rattle.immunity.specs.Findings.{seriesFigures, faultAnswer, faultTrace}
 
@@ -20,16 +20,19 @@ pub data Found (m : Monitor) (d set : ℕ) : List ℕ → List ℕ → Type 0 wh
   vulnerable : (s : Series) → distance m d set ≡ number (length (sentTrace s)) → FirstWitness m d set s
       → Found m d set (seriesFigures (reading m d) (m .automaton) (m .start) s) (sentTrace s)
 
-pub record DemandThree (b : List ℕ) (F G d : ℕ) : Type 0 where
-  -- the distance is the length of the shortest harmed sent trace, or missing
+-- `limit` is the greatest number of states
+pub record DemandThree (limit : ℕ) (b : List ℕ) (F G d : ℕ) : Type 0 where
+  -- the distance is the length of the shortest harmed sent trace, or missing; there is no other
   pub shortest : Distance (monitorOf b) d F (distance (monitorOf b) d F)
-  -- an answer that is not a refusal, with an area of any length, tells it, with the first witness
-  pub answers : (room : ℕ) (values : List ℕ) → faultAnswer stateLimit b F d room ≡ answered values → Found (monitorOf b) d F values (faultTrace b F d)
+  pub only : (e : Extent) → Distance (monitorOf b) d F e → e ≡ distance (monitorOf b) d F
+  -- an answer that is not a refusal, with an area of any length, tells it, with the first witness; there is no other first
+  pub answers : (room : ℕ) (values : List ℕ) → faultAnswer limit b F d room ≡ answered values → Found (monitorOf b) d F values (faultTrace b F d)
+  pub first : (s t : Series) → FirstWitness (monitorOf b) d F s → FirstWitness (monitorOf b) d F t → s ≡ t
   -- it is missing exactly if no two joined traces read differently
   pub joined : (distance (monitorOf b) d F ≡ missing) ↔ ((x y : List ℕ) → Joined (monitorOf b .automaton) (faultsOf (monitorOf b) F) x y → reads (monitorOf b) d x ≡ reads (monitorOf b) d y)
   -- for two sets together it is the smaller of the two
-  pub together : distance (monitorOf b) d (bitOr F G) ≡ smaller (distance (monitorOf b) d F) (distance (monitorOf b) d G)
-  -- without repetition it stays the same with any number of faults
-  pub several : holds F 2 ≡ false → DistanceOfSeveral (monitorOf b) d F (distance (monitorOf b) d F)
+  pub both : distance (monitorOf b) d (together F G) ≡ smaller (distance (monitorOf b) d F) (distance (monitorOf b) d G)
+  -- in a set without repetition it stays the same when any number of faults, one after another, is allowed in place of one
+  pub several : holds F repetition ≡ false → DistanceOfSeveral (monitorOf b) d F (distance (monitorOf b) d F)
   -- under the six classes it is never greater than under the three marks
   pub six : AtMost (distance (monitorOf b) 6 F) (distance (monitorOf b) 3 F)

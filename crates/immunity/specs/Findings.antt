@@ -2,14 +2,17 @@
 use mathlib.Core.List.{List, [], _∷_, _++_}
 use mathlib.Core.Option.{Option, none, some}
 use Prim.Native.Nat.{ℕ}
-use lib.ListN.{length}
+use lib.ListN.{length, getD}
 use Rattle.theory.specs.Answer.{Question, Answer, refused, answered, asks}
 use Rattle.theory.specs.Automaton.{Automaton, run}
 use Rattle.theory.specs.Monitor.{Monitor, reading, monitorability}
+use Rattle.theory.specs.Faults.{steps}
 use Rattle.theory.specs.Series.{Series, sentTrace, receivedTrace}
-use Rattle.theory.specs.Distance.{Extent, number, missing, firstWitness, distance}
-use Rattle.monitor.specs.Format.{monitorOf}
+use Rattle.theory.specs.Distance.{Extent, number, missing}
+use Rattle.theory.specs.Computed.{firstHarmful, firstWitness, distance}
+use Rattle.monitor.specs.Format.{automatonOf, monitorOf}
 use Rattle.monitor.specs.Questions.{tableQuestions, question9, question10, question13}
+use Rattle.pairs.specs.Square.{differing}
 use Rattle.immunity.specs.declared.Witness.{Witness}
 use Rattle.immunity.specs.declared.Finding.{Finding}
 use Rattle.immunity.specs.declared.Finding.the-variants.{Refused, Immune, Vulnerable}
@@ -46,7 +49,7 @@ faultQuestions set d w room = question9 set ∷ question10 d ∷ roomQuestions w
 unfoldable pub faultAnswer : ℕ → List ℕ → ℕ → ℕ → ℕ → Answer
 faultAnswer limit b set d room = asks (tableQuestions limit b ++ faultQuestions set d (firstWitness (monitorOf b) d set) room) (tableFigures (monitorOf b) d set)
 
--- what stands in the area after an answer
+-- what an answer writes at the front of the area
 abbrev pub faultTrace : List ℕ → ℕ → ℕ → List ℕ
 faultTrace b set d = witnessTrace (firstWitness (monitorOf b) d set)
 
@@ -59,9 +62,19 @@ finding (Refused r) = refused (r .number) (r .place)
 finding Immune = answered []
 finding (Vulnerable w) = answered (witnessValues w)
 
+-- ---- layers
+
+-- the first harmful series of n states and k symbols that read `outs` and have the next states `ts`
+abbrev pub firstOf : ℕ → ℕ → List ℕ → List ℕ → ℕ → ℕ → Option Series
+firstOf n k outs ts set start = firstHarmful (automatonOf n k ts) (differing outs) (steps set k) start
+
+-- what they answer for an area of `room` bytes
+abbrev pub answerOf : ℕ → ℕ → List ℕ → List ℕ → ℕ → ℕ → ℕ → Answer
+answerOf n k outs ts set start room = asks (roomQuestions (firstOf n k outs ts set start) room) (witnessFigures (λ q. getD outs q 0) (automatonOf n k ts) start (firstOf n k outs ts set start))
+
 -- ---- the card
 
--- a distance in a column: 0 where it is missing (no distance is 0: every fault step covers a symbol)
+-- a distance in a column: 0 where it is missing (no distance is 0: `distance-positive` in theory/proofs/Distance.antt)
 abbrev pub column : Extent → ℕ
 column missing = 0
 column (number l) = l

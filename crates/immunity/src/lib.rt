@@ -12,12 +12,12 @@ ghost use Rattle.theory.specs.Answer.{asks, written};
 ghost use Rattle.theory.specs.Monitor.{stateLimit};
 ghost use Rattle.theory.specs.Faults.{steps};
 ghost use Rattle.theory.specs.Series.{Series, sentTrace};
-ghost use Rattle.theory.specs.Distance.{horizon, firstHarmful, firstWitness, extentOf};
+ghost use Rattle.theory.specs.Computed.{horizon, firstWitness, extentOf};
 ghost use Rattle.monitor.specs.Format.{Rows, Table, automatonOf, tableOf};
 ghost use Rattle.pairs.specs.Square.{never, Squared, differing};
 ghost use Rattle.faults.specs.Steps.{Costs};
 ghost use Rattle.totals.specs.Totals.{Settled};
-ghost use Rattle.immunity.specs.Findings.{seriesFigures, witnessFigures, witnessTrace, roomQuestions, tableFigures, faultAnswer, faultTrace, witnessValues, finding, column, cardFigures, cardAnswer, cardValues, carded};
+ghost use Rattle.immunity.specs.Findings.{seriesFigures, witnessTrace, roomQuestions, firstOf, answerOf, tableFigures, faultAnswer, faultTrace, witnessValues, finding, column, cardFigures, cardAnswer, cardValues, carded};
 
 // A witness whose sent trace stands in the area: its length, the symbols before the fault, the fault's bit, the replacement, and what the sent and the received trace read.
 pub struct Witness {
@@ -64,8 +64,8 @@ fn witness_of(
     area: &mut [u8],
 ) -> Witness
     requires { ⌜ Rows stateLimit n k (now nexts) × (length (now outputs) ≡ n) × (start < n) × Squared (automatonOf n k (now nexts)) (differing (now outputs)) (now square) × Costs (automatonOf n k (now nexts)) (now square) (steps set k) n (now costs) × Settled (automatonOf n k (now nexts)) (now costs) (now totals) × (getD (now totals) start 0 < never) × (getD (now totals) start 0 ≤ length (now area)) ⌝ }
-    ensures figures { λ r. ⌜ ((s : Series) → firstHarmful (automatonOf n k (now (nexts .entry))) (differing (now (outputs .entry))) (steps set k) start ≡ some s → witnessValues r ≡ seriesFigures (λ q. getD (now (outputs .entry)) q 0) (automatonOf n k (now (nexts .entry))) start s) ⌝ }
-    ensures area { λ _. ⌜ ((s : Series) → firstHarmful (automatonOf n k (now (nexts .entry))) (differing (now (outputs .entry))) (steps set k) start ≡ some s → now (area .exit) ≡ sets (now (area .entry)) 0 (sentTrace s)) ⌝ }
+    ensures figures { λ r. ⌜ ((s : Series) → firstOf n k (now (outputs .entry)) (now (nexts .entry)) set start ≡ some s → witnessValues r ≡ seriesFigures (λ q. getD (now (outputs .entry)) q 0) (automatonOf n k (now (nexts .entry))) start s) ⌝ }
+    ensures area { λ _. ⌜ ((s : Series) → firstOf n k (now (outputs .entry)) (now (nexts .entry)) set start ≡ some s → now (area .exit) ≡ sets (now (area .entry)) 0 (sentTrace s)) ⌝ }
 {
     let approach = totals::write_before(totals, costs, nexts, n, k, start, area);
     let state = approach.state;
@@ -109,8 +109,8 @@ fn examine_set(
     area: &mut [u8],
 ) -> Finding
     requires { ⌜ Rows stateLimit n k (now nexts) × (length (now outputs) ≡ n) × (start < n) × Squared (automatonOf n k (now nexts)) (differing (now outputs)) (now square) ⌝ }
-    ensures figures { λ r. ⌜ finding r ≡ asks (roomQuestions (firstHarmful (automatonOf n k (now (nexts .entry))) (differing (now (outputs .entry))) (steps set k) start) (length (now (area .entry)))) (witnessFigures (λ q. getD (now (outputs .entry)) q 0) (automatonOf n k (now (nexts .entry))) start (firstHarmful (automatonOf n k (now (nexts .entry))) (differing (now (outputs .entry))) (steps set k) start)) ⌝ }
-    ensures area { λ r. ⌜ now (area .exit) ≡ written (finding r) (witnessTrace (firstHarmful (automatonOf n k (now (nexts .entry))) (differing (now (outputs .entry))) (steps set k) start)) (now (area .entry)) ⌝ }
+    ensures figures { λ r. ⌜ finding r ≡ answerOf n k (now (outputs .entry)) (now (nexts .entry)) set start (length (now (area .entry))) ⌝ }
+    ensures area { λ r. ⌜ now (area .exit) ≡ written (finding r) (witnessTrace (firstOf n k (now (outputs .entry)) (now (nexts .entry)) set start)) (now (area .entry)) ⌝ }
 {
     let costs = faults::costs(square, nexts, n, k, set);
     let mut totals = costs;
@@ -208,10 +208,10 @@ fn distance_in(
     n: usize,
     k: usize,
     start: usize,
-    set: usize,
+    set: FaultSet,
 ) -> usize
     requires { ⌜ Rows stateLimit n k (now nexts) × (length (now marks) ≡ n) × (start < n) × Squared (automatonOf n k (now nexts)) (differing (now marks)) (now square) ⌝ }
-    ensures { λ r. ⌜ r ≡ column (extentOf (firstHarmful (automatonOf n k (now (nexts .entry))) (differing (now (marks .entry))) (steps set k) start)) ⌝ }
+    ensures { λ r. ⌜ r ≡ column (extentOf (firstOf n k (now (marks .entry)) (now (nexts .entry)) (set .bits) start)) ⌝ }
 {
     let mut area = scratch();
     let Finding::Vulnerable(witness) = examine_set(
@@ -221,7 +221,7 @@ fn distance_in(
         n,
         k,
         start,
-        set,
+        set.bits,
         &mut area,
     ) else {
         return 0;
@@ -235,13 +235,46 @@ fn card_of(marks: &[u8], nexts: &[u8], n: usize, k: usize, start: usize) -> Link
     ensures { λ r. ⌜ cardValues r ≡ cardFigures (tableOf n k start (now (marks .entry)) (now (nexts .entry))) ⌝ }
 {
     let square = pairs::distances(nexts, n, k, marks);
+    let none = FaultSet::empty();
     LinkCard {
         states: n,
         monitorability: classes::monitorability_of(marks, nexts, n, k, start),
-        loss: distance_in(marks, &square, nexts, n, k, start, FaultSet::LOSS),
-        corruption: distance_in(marks, &square, nexts, n, k, start, FaultSet::CORRUPTION),
-        repeat: distance_in(marks, &square, nexts, n, k, start, FaultSet::REPEAT),
-        swap: distance_in(marks, &square, nexts, n, k, start, FaultSet::SWAP),
+        loss: distance_in(
+            marks,
+            &square,
+            nexts,
+            n,
+            k,
+            start,
+            none.with(FaultSet::LOSS),
+        ),
+        corruption: distance_in(
+            marks,
+            &square,
+            nexts,
+            n,
+            k,
+            start,
+            none.with(FaultSet::CORRUPTION),
+        ),
+        repeat: distance_in(
+            marks,
+            &square,
+            nexts,
+            n,
+            k,
+            start,
+            none.with(FaultSet::REPEAT),
+        ),
+        swap: distance_in(
+            marks,
+            &square,
+            nexts,
+            n,
+            k,
+            start,
+            none.with(FaultSet::SWAP),
+        ),
     }
 }
 

@@ -7,19 +7,20 @@ use mathlib.Core.Option.{some}
 use Prim.Native.Nat.{ℕ, zero, suc, _+_, _≤_, _<_}
 use native.Mathlib.Nat.{le-refl}
 use native.Mathlib.Omega.{arith}
-use lib.Bits.{bitOr}
 use lib.Dec.{eqb}
 use lib.ListN.{length, length-append, getD}
 use borrow.Author.Tests.{eqb-true, eqb-false, ne-eqb, not-true}
 use Rattle.theory.specs.Lists.{In}
 use Rattle.theory.specs.Automaton.{Automaton, Trace, run, leads}
 use Rattle.theory.specs.Monitor.{Monitor, WellFormed, classFrom, class, reading, marked}
-use Rattle.theory.specs.Faults.{FaultStep, holds, steps}
+use Rattle.theory.specs.Faults.{FaultStep, holds, repetition, together}
 use Rattle.theory.specs.Series.{Series, sentTrace, receivedTrace, Precedes}
-use Rattle.theory.specs.Distance.{number, missing, smaller, AtMost, Faulted, Joined, itself, forth, back, Chained, end, then, differ, reads, faultsOf, Harmed, HarmedBySeveral, Distance, DistanceOfSeveral, Witness, FirstWitness, firstWitness, distance}
+use Rattle.theory.specs.Distance.{number, missing, Shortest, smaller, AtMost, Faulted, Joined, itself, forth, back, Chained, end, then, differ, reads, faultsOf, Harmed, HarmedBySeveral, Distance, DistanceOfSeveral, Witness, FirstWitness}
+use Rattle.theory.specs.Computed.{firstWitness, distance}
 use Rattle.theory.proofs.Reach.{run-in}
-use Rattle.theory.proofs.Faults.{Good, steps-good, steps-shrink, steps-rise, together, first-of-two, second-of-two}
-use Rattle.theory.proofs.Witness.{sent-trace, received-trace, First, first-harms, extent-exact}
+use Rattle.theory.proofs.Faults.{Good, steps-good, steps-shrink, steps-rise, of-either, first-of-two, second-of-two}
+use Rattle.theory.proofs.Witness.{sent-length, sent-trace, received-trace, First, first-harms, extent-exact}
+use Rattle.theory.proofs.Order.{precedes-not-itself, precedes-then}
 use Rattle.theory.proofs.Extent.{shortest-one, shortest-wider, shortest-same, shortest-either}
 
 -- ---- joined traces, of any fault steps
@@ -81,7 +82,7 @@ module _ (m : Monitor) (d : ℕ) where
 
     -- ---- any number of faults
 
-    shrinks : holds set 2 ≡ false → {x y : List ℕ} → Faulted g F x y → length y ≤ length x
+    shrinks : holds set repetition ≡ false → {x y : List ℕ} → Faulted g F x y → length y ≤ length x
     shrinks without {x} {y} f =
         let s = f .by in
         let r = steps-shrink set (g .symbols) without (s .fault) (f .valid .known) in
@@ -93,8 +94,8 @@ module _ (m : Monitor) (d : ℕ) where
         long u v w = length-append u (v ++ w) ∙ ap (λ (l : ℕ). length u + l) (length-append v w)
 
     -- a chain whose ends differ has a link whose ends differ, and what is sent there is not longer than what was sent first
-    link : holds set 2 ≡ false → {x y : List ℕ} → Chained g F x y → differ m d (run g (m .start) x) (run g (m .start) y) ≡ true → (v : List ℕ) × Harmed m d set v × (length v ≤ length x)
-    link without (end {x}) e = absurd (differ-not x x e refl)
+    link : holds set repetition ≡ false → {x y : List ℕ} → Chained g F x y → differ m d (run g (m .start) x) (run g (m .start) y) ≡ true → (v : List ℕ) × Harmed m d set v × (length v ≤ length x)
+    link without (end {x} t) e = absurd (differ-not x x e refl)
     link without (then {x} {y} {z} f c) e =
         ⊎-elim
         (λ (alike : reads m d x ≡ reads m d y).
@@ -104,9 +105,9 @@ module _ (m : Monitor) (d : ℕ) where
         (alike-or-differ x y)
 
     pub one-of-several : (w : List ℕ) → Harmed m d set w → HarmedBySeveral m d set w
-    one-of-several w h = record { last = h .received; chain = then (h .fault) end; differs = h .differs }
+    one-of-several w h = record { last = h .received; chain = then (h .fault) (end (received-is-trace g F (steps-good g set) (h .fault))); differs = h .differs }
 
-    pub several-one : holds set 2 ≡ false → (w : List ℕ) → HarmedBySeveral m d set w → (v : List ℕ) × Harmed m d set v × (length v ≤ length w)
+    pub several-one : holds set repetition ≡ false → (w : List ℕ) → HarmedBySeveral m d set w → (v : List ℕ) × Harmed m d set v × (length v ≤ length w)
     several-one without w h = link without (h .chain) (h .differs)
 
   -- ---- two sets
@@ -122,9 +123,9 @@ module _ (m : Monitor) (d : ℕ) where
   over-sets : (A B : ℕ) → ((s : FaultStep) → In s (faultsOf m A) → In s (faultsOf m B)) → (w : List ℕ) → Harmed m d A w → Harmed m d B w
   over-sets A B over w h = record { received = h .received; fault = over-faults (faultsOf m A) (faultsOf m B) over (h .fault); differs = h .differs }
 
-  pub harmed-either : (A B : ℕ) (w : List ℕ) → Harmed m d (bitOr A B) w → Harmed m d A w ⊎ Harmed m d B w
+  pub harmed-either : (A B : ℕ) (w : List ℕ) → Harmed m d (together A B) w → Harmed m d A w ⊎ Harmed m d B w
   harmed-either A B w h =
-      ⊎-elim (λ i. inl (again A i)) (λ i. inr (again B i)) (together A B (g .symbols) (h .fault .by .fault) (h .fault .valid .known))
+      ⊎-elim (λ i. inl (again A i)) (λ i. inr (again B i)) (of-either A B (g .symbols) (h .fault .by .fault) (h .fault .valid .known))
     where
       again : (C : ℕ) → In (h .fault .by .fault) (faultsOf m C) → Harmed m d C w
       again C i = record {
@@ -138,11 +139,11 @@ module _ (m : Monitor) (d : ℕ) where
         differs = h .differs;
       }
 
-  pub harmed-first : (A B : ℕ) (w : List ℕ) → Harmed m d A w → Harmed m d (bitOr A B) w
-  harmed-first A B = over-sets A (bitOr A B) (λ s. first-of-two A B (g .symbols) s)
+  pub harmed-first : (A B : ℕ) (w : List ℕ) → Harmed m d A w → Harmed m d (together A B) w
+  harmed-first A B = over-sets A (together A B) (λ s. first-of-two A B (g .symbols) s)
 
-  pub harmed-second : (A B : ℕ) (w : List ℕ) → Harmed m d B w → Harmed m d (bitOr A B) w
-  harmed-second A B = over-sets B (bitOr A B) (λ s. second-of-two A B (g .symbols) s)
+  pub harmed-second : (A B : ℕ) (w : List ℕ) → Harmed m d B w → Harmed m d (together A B) w
+  harmed-second A B = over-sets B (together A B) (λ s. second-of-two A B (g .symbols) s)
 
 -- ---- six against three
 
@@ -205,12 +206,12 @@ module _ (limit : ℕ) (m : Monitor) (w : WellFormed limit m) where
     λ alike. shortest-one (Harmed m d set) (distance m d set) missing (distance-exact d set) (alike-immune m d set alike),
   )
 
-  pub distance-together : (d A B : ℕ) → distance m d (bitOr A B) ≡ smaller (distance m d A) (distance m d B)
+  pub distance-together : (d A B : ℕ) → distance m d (together A B) ≡ smaller (distance m d A) (distance m d B)
   distance-together d A B =
-      shortest-one (Harmed m d (bitOr A B)) (distance m d (bitOr A B)) (smaller (distance m d A) (distance m d B)) (distance-exact d (bitOr A B))
-      (shortest-either (Harmed m d A) (Harmed m d B) (Harmed m d (bitOr A B)) (harmed-first m d A B) (harmed-second m d A B) (harmed-either m d A B) (distance m d A) (distance m d B) (distance-exact d A) (distance-exact d B))
+      shortest-one (Harmed m d (together A B)) (distance m d (together A B)) (smaller (distance m d A) (distance m d B)) (distance-exact d (together A B))
+      (shortest-either (Harmed m d A) (Harmed m d B) (Harmed m d (together A B)) (harmed-first m d A B) (harmed-second m d A B) (harmed-either m d A B) (distance m d A) (distance m d B) (distance-exact d A) (distance-exact d B))
 
-  pub distance-several : (d set : ℕ) → holds set 2 ≡ false → DistanceOfSeveral m d set (distance m d set)
+  pub distance-several : (d set : ℕ) → holds set repetition ≡ false → DistanceOfSeveral m d set (distance m d set)
   distance-several d set without =
       shortest-same (Harmed m d set) (HarmedBySeveral m d set) (one-of-several m d set) (several-one m d set without) (distance m d set) (distance-exact d set)
 
@@ -226,3 +227,21 @@ module _ (limit : ℕ) (m : Monitor) (w : WellFormed limit m) where
 
       before : (t : Series) → Witness m d set t → (t ≡ s) ⊎ Precedes s t
       before t h = f .precedes t (record { valid = h .valid; harms = ⊎-elim (λ alike. absurd (h .differs alike)) (λ r. r) (alike-or-differ m d (sentTrace t) (receivedTrace t)) })
+
+  -- no distance is 0: every fault step covers a symbol
+  pub distance-positive : (d set l : ℕ) → distance m d set ≡ number l → 1 ≤ l
+  distance-positive d set l e =
+      let s : Shortest (Harmed m d set) l = subst (Distance m d set) e (distance-exact d set) in
+      let f = s .has .fault in
+      let a = sent-length (f .by) in
+      let b = steps-good (m .automaton) set (f .by .fault) (f .valid .known) .covers in
+      let c = ap length (f .is-sent) in
+      let l′ = s .long in
+      omega (arith, a, b, c, l′)
+
+-- there is only one first witness
+pub first-only : (m : Monitor) (d set : ℕ) (s t : Series) → FirstWitness m d set s → FirstWitness m d set t → s ≡ t
+first-only m d set s t a b =
+    ⊎-elim (λ (e : t ≡ s). sym e)
+    (λ p. ⊎-elim (λ (e : s ≡ t). e) (λ q. absurd (precedes-not-itself s (precedes-then s t s p q))) (b .first s (a .witness)))
+    (a .first t (b .witness))

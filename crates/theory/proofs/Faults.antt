@@ -6,12 +6,11 @@ use mathlib.Core.Logic.{_⊎_, inl, inr, ⊎-elim}
 use Prim.Native.Nat.{ℕ, zero, suc, _≤_, _<_, _^_}
 use native.Mathlib.Nat.{le-refl}
 use native.Mathlib.Omega.{arith}
-use lib.Bits.{bitOr}
 use lib.ListN.{length}
 use lib.Pow.{pow-lt}
 use Rattle.theory.specs.Lists.{In, each, Rising}
 use Rattle.theory.specs.Automaton.{Automaton, Trace}
-use Rattle.theory.specs.Faults.{FaultStep, kinds, stepOf, seconds, holds, stepsOfKind, steps}
+use Rattle.theory.specs.Faults.{FaultStep, kinds, stepOf, seconds, holds, repetition, together, stepsOfKind, steps}
 use Rattle.theory.specs.Series.{StepFirst}
 use Rattle.theory.proofs.Below.{clash, or-cases, or-left, or-right}
 use Rattle.theory.proofs.Lists.{each-in, in-each, rising-each}
@@ -71,7 +70,7 @@ steps-good g set s i =
     subst (Good g) (sym (h .is)) (step-good g (h .place) (h .first) (h .second) (h .first-in) (h .second-in))
 
 -- a set without repetition delivers no more than it covers
-pub steps-shrink : (set k : ℕ) → holds set 2 ≡ false → (s : FaultStep) → In s (steps set k) → length (s .received) ≤ length (s .sent)
+pub steps-shrink : (set k : ℕ) → holds set repetition ≡ false → (s : FaultStep) → In s (steps set k) → length (s .received) ≤ length (s .sent)
 steps-shrink set k without s i =
     let h = steps-held set k s i in
     subst (λ (t : FaultStep). length (t .received) ≤ length (t .sent)) (sym (h .is)) (go (h .place) (h .held) (h .first) (h .second))
@@ -82,10 +81,10 @@ steps-shrink set k without s i =
     go (suc (suc zero)) e a b = absurd (clash e without)
     go (suc (suc (suc c))) e a b = le-refl 2
 
--- "Two sets together hold each fault that is in either."
-pub together : (F G k : ℕ) (s : FaultStep) → In s (steps (bitOr F G) k) → In s (steps F k) ⊎ In s (steps G k)
-together F G k s i =
-    let h = steps-held (bitOr F G) k s i in
+-- two sets together have the steps of either, and no other
+pub of-either : (F G k : ℕ) (s : FaultStep) → In s (steps (together F G) k) → In s (steps F k) ⊎ In s (steps G k)
+of-either F G k s i =
+    let h = steps-held (together F G) k s i in
     ⊎-elim
     (λ e. inl (held-steps F k s (record { place = h .place; first = h .first; second = h .second; place-in = h .place-in; held = e; first-in = h .first-in; second-in = h .second-in; is = h .is })))
     (λ e. inr (held-steps G k s (record { place = h .place; first = h .first; second = h .second; place-in = h .place-in; held = e; first-in = h .first-in; second-in = h .second-in; is = h .is })))
@@ -96,11 +95,11 @@ wider F G k s over i =
     let h = steps-held F k s i in
     held-steps G k s (record { place = h .place; first = h .first; second = h .second; place-in = h .place-in; held = over (h .place) (h .held); first-in = h .first-in; second-in = h .second-in; is = h .is })
 
-pub first-of-two : (F G k : ℕ) (s : FaultStep) → In s (steps F k) → In s (steps (bitOr F G) k)
-first-of-two F G k s = wider F (bitOr F G) k s (λ c e. bit-or F G c ∙ or-left (holds F c) (holds G c) e)
+pub first-of-two : (F G k : ℕ) (s : FaultStep) → In s (steps F k) → In s (steps (together F G) k)
+first-of-two F G k s = wider F (together F G) k s (λ c e. bit-or F G c ∙ or-left (holds F c) (holds G c) e)
 
-pub second-of-two : (F G k : ℕ) (s : FaultStep) → In s (steps G k) → In s (steps (bitOr F G) k)
-second-of-two F G k s = wider G (bitOr F G) k s (λ c e. bit-or F G c ∙ or-right (holds F c) (holds G c) e)
+pub second-of-two : (F G k : ℕ) (s : FaultStep) → In s (steps G k) → In s (steps (together F G) k)
+second-of-two F G k s = wider G (together F G) k s (λ c e. bit-or F G c ∙ or-right (holds F c) (holds G c) e)
 
 -- ---- the written order
 

@@ -1,17 +1,17 @@
--- Harm done by faults, the distance of a table, and the first witness. None of these words goes by a search.
+-- Harm done by faults, joined traces, the distance of a table, and the first witness: "by table, set and reading, and by nothing that the search notes down".
 use mathlib.Core.Path.{_≡_}
 use mathlib.Core.Bool.{Bool, true, not}
 use mathlib.Core.List.{List}
 use mathlib.Core.Logic.{_⊎_}
-use mathlib.Core.Option.{Option, none, some}
-use Prim.Native.Nat.{ℕ, suc, _+_, _*_, _≤_, min}
+use mathlib.Core.Option.{none, some}
+use Prim.Native.Nat.{ℕ, _≤_, min}
 use lib.Dec.{eqb}
 use lib.ListN.{length}
-use Rattle.theory.specs.Lists.{find, each}
+use Rattle.theory.specs.Lists.{each}
 use Rattle.theory.specs.Automaton.{Automaton, Trace, run}
 use Rattle.theory.specs.Monitor.{Monitor, reading}
 use Rattle.theory.specs.Faults.{FaultStep, steps}
-use Rattle.theory.specs.Series.{Series, Valid, sentTrace, receivedTrace, Precedes, harmful, series}
+use Rattle.theory.specs.Series.{Series, Valid, sentTrace, receivedTrace, Precedes, series}
 
 -- ---- lengths that may be missing
 
@@ -62,7 +62,7 @@ module _ (g : Automaton) (faults : List FaultStep) where
 
   -- "a series of traces starts with it, each next one is the one before after one fault of the set"
   pub data Chained : List ℕ → List ℕ → Type 0 where
-    end : {x : List ℕ} → Chained x x
+    end : {x : List ℕ} → Trace g x → Chained x x
     then : {x y z : List ℕ} → Faulted x y → Chained y z → Chained x z
 
   module _ (ends : ℕ → ℕ → Bool) (q : ℕ) where
@@ -115,26 +115,3 @@ pub record Witness (m : Monitor) (d set : ℕ) (s : Series) : Type 0 where
 pub record FirstWitness (m : Monitor) (d set : ℕ) (s : Series) : Type 0 where
   pub witness : Witness m d set s
   pub first : (t : Series) → Witness m d set t → (t ≡ s) ⊎ Precedes s t
-
--- ---- the first witness, computed
-
--- with n states, a harmful series of any length has one with at most so many symbols sent (proofs/Witness.antt)
-abbrev pub horizon : ℕ → ℕ
-horizon n = n * n + n + 2
-
--- the first series in the written order that is harmful from q
-unfoldable pub firstHarmful : Automaton → (ℕ → ℕ → Bool) → List FaultStep → ℕ → Option Series
-firstHarmful g ends faults q = find (harmful g ends q) (each (suc (horizon (g .states))) (series faults (g .symbols)))
-
--- the first witness of a table
-abbrev pub firstWitness : Monitor → ℕ → ℕ → Option Series
-firstWitness m d set = firstHarmful (m .automaton) (differ m d) (faultsOf m set) (m .start)
-
--- how far a witness is, where there is one
-abbrev pub extentOf : Option Series → Extent
-extentOf none = missing
-extentOf (some s) = number (length (sentTrace s))
-
--- the distance of a table
-abbrev pub distance : Monitor → ℕ → ℕ → Extent
-distance m d set = extentOf (firstWitness m d set)

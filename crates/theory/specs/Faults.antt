@@ -1,7 +1,8 @@
--- The faults of a link as fault steps. Only this file tells one kind of fault from another: whatever is said or proved elsewhere is about any fault step.
+-- The faults of a link as fault steps. Of all definitions only these tell one kind of fault from another; the others are about any fault step.
 use mathlib.Core.Bool.{Bool, cond}
 use mathlib.Core.List.{List, [], _∷_}
 use Prim.Native.Nat.{ℕ, zero, suc, _/_, _%_, _^_}
+use lib.Bits.{bitOr}
 use lib.Dec.{eqb}
 use Rattle.theory.specs.Lists.{each}
 
@@ -49,6 +50,14 @@ seconds (suc (suc (suc c))) k = k
 -- kind c is in the fault set: "Each fault has its fixed bit"
 abbrev pub holds : ℕ → ℕ → Bool
 holds set c = eqb (set / 2 ^ c % 2) 1
+
+-- the kind of repetition
+abbrev pub repetition : ℕ
+repetition = 2
+
+-- "Two sets together hold each fault that is in either."
+abbrev pub together : ℕ → ℕ → ℕ
+together F G = bitOr F G
 
 -- the fault steps of kind c among k symbols
 abbrev pub stepsOfKind : ℕ → ℕ → List FaultStep

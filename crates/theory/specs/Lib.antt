@@ -7,3 +7,4 @@ pub mod Pairs
 pub mod Faults
 pub mod Series
 pub mod Distance
+pub mod Computed

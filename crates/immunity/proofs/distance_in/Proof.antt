@@ -25,13 +25,13 @@ returns : tie.Need-returns
 returns c =
     let s = c .before .before .before .before .before .before .before in
     let r = s .pre .0 in
-    column-missing (differing (s .args .marks .now)) (s .args .set) (s .args .start) _ (λ q. getD (s .args .marks .now) q 0) (next-of-rows r) (r .states-most) (s .pre .2) (le-of-eq (sym (c .before .before .before .before .scratch .ensures))) (c .before .before .examine-set .result) (c .before .before .examine-set .ensures .0) (c .match .keys2)
+    column-missing (differing (s .args .marks .now)) (s .args .set .bits) (s .args .start) _ (λ q. getD (s .args .marks .now) q 0) (next-of-rows r) (r .states-most) (s .pre .2) (le-of-eq (sym (c .before .before .before .before .scratch .ensures))) (c .before .before .examine-set .result) (c .before .before .examine-set .ensures .0) (c .match .keys2)
 
 returns-2 : tie.Need-returns-2
 returns-2 c =
     let s = c .before .before .before .before .before .before .before .before .before in
     let r = s .pre .0 in
-    column-number (differing (s .args .marks .now)) (s .args .set) (s .args .start) _ (λ q. getD (s .args .marks .now) q 0) (next-of-rows r) (r .states-most) (s .pre .2) (le-of-eq (sym (c .before .before .before .before .before .before .scratch .ensures))) (c .before .before .before .before .examine-set .result) (c .before .before .before .before .examine-set .ensures .0) (c .before .witness .given .1)
+    column-number (differing (s .args .marks .now)) (s .args .set .bits) (s .args .start) _ (λ q. getD (s .args .marks .now) q 0) (next-of-rows r) (r .states-most) (s .pre .2) (le-of-eq (sym (c .before .before .before .before .before .before .scratch .ensures))) (c .before .before .before .before .examine-set .result) (c .before .before .before .before .examine-set .ensures .0) (c .before .witness .given .1)
 
 pub distance-in-spec : {M : Type 1} → statement M
 distance-in-spec =

@@ -1,0 +1,33 @@
+-- The first witness and the distance, computed: the first harmful series among all that are not longer than a horizon. That no more is needed is a law (proofs/Witness.antt).
+use mathlib.Core.Bool.{Bool}
+use mathlib.Core.List.{List}
+use mathlib.Core.Option.{Option, none, some}
+use Prim.Native.Nat.{ℕ, suc, _+_, _*_}
+use lib.ListN.{length}
+use Rattle.theory.specs.Lists.{find, each}
+use Rattle.theory.specs.Automaton.{Automaton}
+use Rattle.theory.specs.Monitor.{Monitor}
+use Rattle.theory.specs.Faults.{FaultStep}
+use Rattle.theory.specs.Series.{Series, sentTrace, harmful, series}
+use Rattle.theory.specs.Distance.{Extent, number, missing, differ, faultsOf}
+
+-- with n states, if any series is harmful, one with at most so many symbols sent is
+abbrev pub horizon : ℕ → ℕ
+horizon n = n * n + n + 2
+
+-- the first series in the written order that is harmful from q
+unfoldable pub firstHarmful : Automaton → (ℕ → ℕ → Bool) → List FaultStep → ℕ → Option Series
+firstHarmful g ends faults q = find (harmful g ends q) (each (suc (horizon (g .states))) (series faults (g .symbols)))
+
+-- the first witness of a table
+abbrev pub firstWitness : Monitor → ℕ → ℕ → Option Series
+firstWitness m d set = firstHarmful (m .automaton) (differ m d) (faultsOf m set) (m .start)
+
+-- how far a witness is, where there is one
+abbrev pub extentOf : Option Series → Extent
+extentOf none = missing
+extentOf (some s) = number (length (sentTrace s))
+
+-- the distance of a table
+abbrev pub distance : Monitor → ℕ → ℕ → Extent
+distance m d set = extentOf (firstWitness m d set)
