@@ -26,7 +26,7 @@ use Rattle.pairs.proofs.Path.{path-length}
 use Rattle.faults.specs.declared.Fault.{Fault}
 use Rattle.faults.specs.declared.Choice.{Choice}
 use Rattle.faults.specs.Steps.{stepFor, Ranged, costOf, Best, Costs}
-use Rattle.totals.specs.Totals.{Settled, approach}
+use Rattle.totals.specs.Totals.{Relaxed, approach}
 use Rattle.immunity.specs.Findings.{seriesFigures}
 use Rattle.immunity.proofs.Search.{search-finds, cost-sum}
 
@@ -64,7 +64,7 @@ pub record Searched (g : Automaton) (ends : ℕ → ℕ → Bool) (set : ℕ) (d
   pub closed : Closed g
   pub squared : Squared g ends d
   pub costs-are : Costs g d (steps set (g .symbols)) (g .states) costs
-  pub settled : Settled g costs v
+  pub relaxed : Relaxed g costs v
 
 -- `count` symbols lead from the start to `state`, where c is the best choice
 pub record Chosen (g : Automaton) (set : ℕ) (d costs v : List ℕ) (start state count : ℕ) (c : Choice) : Type 0 where
@@ -76,9 +76,9 @@ pub record Chosen (g : Automaton) (set : ℕ) (d costs v : List ℕ) (start stat
   pub is-cost : count + getD costs state 0 ≡ getD v start 0
   pub best : Best g d state (steps set (g .symbols)) c
 
-pub searched : (set : ℕ) {limit n k : ℕ} {ts d costs v : List ℕ} {ends : ℕ → ℕ → Bool} → Rows limit n k ts → Squared (automatonOf n k ts) ends d → Costs (automatonOf n k ts) d (steps set k) n costs → Settled (automatonOf n k ts) costs v
+pub searched : (set : ℕ) {limit n k : ℕ} {ts d costs v : List ℕ} {ends : ℕ → ℕ → Bool} → Rows limit n k ts → Squared (automatonOf n k ts) ends d → Costs (automatonOf n k ts) d (steps set k) n costs → Relaxed (automatonOf n k ts) costs v
     → Searched (automatonOf n k ts) ends set d costs v
-searched set r q c t = record { closed = next-of-rows r; squared = q; costs-are = c; settled = t }
+searched set r q c t = record { closed = next-of-rows r; squared = q; costs-are = c; relaxed = t }
 
 pub chosen : {g : Automaton} {ends : ℕ → ℕ → Bool} {set : ℕ} {d costs v : List ℕ} → Searched g ends set d costs v → (start : ℕ) {state count : ℕ} {c : Choice} → start < g .states → getD v start 0 < never
     → count ≡ length (approach g v costs (getD v start 0) start) → state ≡ run g start (approach g v costs (getD v start 0) start) → state < g .states → count + getD costs state 0 ≡ getD v start 0
@@ -136,7 +136,7 @@ module _ {g : Automaton} {ends : ℕ → ℕ → Bool} {set : ℕ} {d costs v : 
   made-first : firstHarmful g ends (steps set (g .symbols)) start ≡ some made
   made-first =
       subst (λ (q : ℕ). find (λ s. eqb (costOf g d q s) (getD costs q 0)) (steps set (g .symbols)) ≡ some step → firstHarmful g ends (steps set (g .symbols)) start ≡ some (record { before = way; fault = step; after = path g d (entry d (run g q (step .sent)) (run g q (step .received))) (run g q (step .sent)) (run g q (step .received)) })) (sym (k .is-state))
-      (search-finds set (h .closed) (h .squared) (h .costs-are) (h .settled) start step (k .start-in) (k .low)) picked
+      (search-finds set (h .closed) (h .squared) (h .costs-are) (h .relaxed) start step (k .start-in) (k .low)) picked
 
   -- the first series is the one made
   pub made-is : {s : Series} → firstHarmful g ends (steps set (g .symbols)) start ≡ some s → made ≡ s

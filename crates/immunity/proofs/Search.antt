@@ -27,7 +27,7 @@ use Rattle.theory.proofs.Witness.{Harm, harm-tells, tells-harm, sent-length, ne
 use Rattle.pairs.specs.Square.{never, entry, Squared, path}
 use Rattle.pairs.proofs.Path.{noted-least, apartBy, path-first}
 use Rattle.faults.specs.Steps.{plus, costOf, Costs}
-use Rattle.totals.specs.Totals.{least, leastAfter, Attained, Settled, onward, approach, Leading}
+use Rattle.totals.specs.Totals.{least, leastAfter, Attained, Relaxed, onward, approach, Leading}
 use Rattle.totals.proofs.Least.{least-le}
 
 plus-at-most : (l e : ℕ) → plus l e ≤ l + e
@@ -46,7 +46,7 @@ cost-sum l e c h s = go (ltb (l + e) never) refl h
     go false p q = absurd (omega arith)
 
 module _ {g : Automaton} {ends : ℕ → ℕ → Bool} {d costs v : List ℕ} (set : ℕ) (c : Closed g) (sq : Squared g ends d)
-    (cs : Costs g d (steps set (g .symbols)) (g .states) costs) (st : Settled g costs v) where
+    (cs : Costs g d (steps set (g .symbols)) (g .states) costs) (st : Relaxed g costs v) where
   abbrev faults : List FaultStep
   faults = steps set (g .symbols)
 

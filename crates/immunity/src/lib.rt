@@ -16,7 +16,7 @@ ghost use Rattle.theory.specs.Computed.{horizon, firstWitness, extentOf};
 ghost use Rattle.monitor.specs.Format.{Rows, Table, automatonOf, tableOf};
 ghost use Rattle.pairs.specs.Square.{never, Squared, differing};
 ghost use Rattle.faults.specs.Steps.{Costs};
-ghost use Rattle.totals.specs.Totals.{Settled};
+ghost use Rattle.totals.specs.Totals.{Relaxed};
 ghost use Rattle.immunity.specs.Findings.{seriesFigures, witnessTrace, roomQuestions, firstOf, answerOf, tableFigures, faultAnswer, faultTrace, witnessValues, finding, column, cardFigures, cardAnswer, cardValues, carded};
 
 // A witness whose sent trace stands in the area: its length, the symbols before the fault, the fault's bit, the replacement, and what the sent and the received trace read.
@@ -63,7 +63,7 @@ fn witness_of(
     set: usize,
     area: &mut [u8],
 ) -> Witness
-    requires { ⌜ Rows stateLimit n k (now nexts) × (length (now outputs) ≡ n) × (start < n) × Squared (automatonOf n k (now nexts)) (differing (now outputs)) (now square) × Costs (automatonOf n k (now nexts)) (now square) (steps set k) n (now costs) × Settled (automatonOf n k (now nexts)) (now costs) (now totals) × (getD (now totals) start 0 < never) × (getD (now totals) start 0 ≤ length (now area)) ⌝ }
+    requires { ⌜ Rows stateLimit n k (now nexts) × (length (now outputs) ≡ n) × (start < n) × Squared (automatonOf n k (now nexts)) (differing (now outputs)) (now square) × Costs (automatonOf n k (now nexts)) (now square) (steps set k) n (now costs) × Relaxed (automatonOf n k (now nexts)) (now costs) (now totals) × (getD (now totals) start 0 < never) × (getD (now totals) start 0 ≤ length (now area)) ⌝ }
     ensures figures { λ r. ⌜ ((s : Series) → firstOf n k (now (outputs .entry)) (now (nexts .entry)) set start ≡ some s → witnessValues r ≡ seriesFigures (λ q. getD (now (outputs .entry)) q 0) (automatonOf n k (now (nexts .entry))) start s) ⌝ }
     ensures area { λ _. ⌜ ((s : Series) → firstOf n k (now (outputs .entry)) (now (nexts .entry)) set start ≡ some s → now (area .exit) ≡ sets (now (area .entry)) 0 (sentTrace s)) ⌝ }
 {
@@ -114,7 +114,7 @@ fn examine_set(
 {
     let costs = faults::costs(square, nexts, n, k, set);
     let mut totals = costs;
-    totals::settle(&mut totals, nexts, n, k);
+    totals::relax(&mut totals, nexts, n, k);
     let distance = totals[start];
     if distance == NEVER {
         return Finding::Immune;

@@ -13,7 +13,7 @@ use Rattle.theory.specs.Automaton.{Automaton, Closed, Trace, run}
 use Rattle.theory.specs.Monitor.{stateLimit}
 use Rattle.theory.proofs.Below.{lt-or-le}
 use Rattle.pairs.specs.Square.{never}
-use Rattle.totals.specs.Totals.{leastAfter, lowers, Bounded, Attained, Lowering, Settled}
+use Rattle.totals.specs.Totals.{leastAfter, lowers, Bounded, Attained, Lowering, Relaxed}
 use Rattle.totals.proofs.Least.{least-found, sum-falls}
 
 -- the total of the state after p by a
@@ -106,7 +106,7 @@ module _ {g : Automaton} {r : ℕ} {before v w : List ℕ} (h : Rounds g before 
   pub rounds-go-on : Rounds g before w
   rounds-go-on = record { bounded = round .bounded; attained = λ costs a. round .attained costs (h .attained costs a) }
 
-  pub rounds-end : r ≤ 0 → Settled g before w
+  pub rounds-end : r ≤ 0 → Relaxed g before w
   rounds-end l =
       let s = round .quiet (omega arith) in
       record {

@@ -47,7 +47,7 @@ pub record Lowering (g : Automaton) (p changed : ℕ) (before after : List ℕ) 
   pub attained : (costs : List ℕ) → Attained g costs before → Attained g costs after
 
 -- totals that no state's successors lower
-pub record Settled (g : Automaton) (before after : List ℕ) : Type 0 where
+pub record Relaxed (g : Automaton) (before after : List ℕ) : Type 0 where
   pub bounded : Bounded (g .states) after
   pub quiet : (q : ℕ) → q < g .states → lowers g after q ≡ false
   pub attained : (costs : List ℕ) → Attained g costs before → Attained g costs after

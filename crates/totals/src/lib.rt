@@ -8,7 +8,7 @@ ghost use Rattle.theory.specs.Automaton.{run};
 ghost use Rattle.theory.specs.Monitor.{stateLimit};
 ghost use Rattle.monitor.specs.Format.{Rows, automatonOf};
 ghost use Rattle.pairs.specs.Square.{never};
-ghost use Rattle.totals.specs.Totals.{leastAfter, lowers, Bounded, Lowering, Settled, onward, approach, Leading};
+ghost use Rattle.totals.specs.Totals.{leastAfter, lowers, Bounded, Lowering, Relaxed, onward, approach, Leading};
 
 // No series at all. What stands below it is a number of symbols.
 const NEVER: usize = 65535;
@@ -72,9 +72,9 @@ fn lower_all(totals: &mut [usize; 64], nexts: &[u8], n: usize, k: usize) -> usiz
 }
 
 // Lowers totals until none is lower: they begin as the costs of the states.
-pub fn settle(totals: &mut [usize; 64], nexts: &[u8], n: usize, k: usize)
+pub fn relax(totals: &mut [usize; 64], nexts: &[u8], n: usize, k: usize)
     requires { ⌜ Rows stateLimit n k (now nexts) × Bounded n (now totals) ⌝ }
-    ensures { λ _. ⌜ Settled (automatonOf n k (now (nexts .entry))) (now (totals .entry)) (now (totals .exit)) ⌝ }
+    ensures { λ _. ⌜ Relaxed (automatonOf n k (now (nexts .entry))) (now (totals .entry)) (now (totals .exit)) ⌝ }
 {
     while lower_all(totals, nexts, n, k) > 0 {}
 }

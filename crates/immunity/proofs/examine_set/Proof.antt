@@ -12,8 +12,8 @@ use Rattle.immunity.proofs.examine_set.Tie as tie
 costs-requires : tie.Need-costs-requires
 costs-requires c κs = search needs
 
-settle-requires : tie.Need-settle-requires
-settle-requires c κs = (let r = c .before .costs .ensures in (c .before .before .before .before .before .pre .0, record { size = r .size; most = λ p l. r .each p l .most }))
+relax-requires : tie.Need-relax-requires
+relax-requires c κs = (let r = c .before .costs .ensures in (c .before .before .before .before .before .pre .0, record { size = r .size; most = λ p l. r .each p l .most }))
 
 mul-distance : tie.Need-mul-distance
 mul-distance c = search needs
@@ -24,7 +24,7 @@ array-read-distance c = search needs
 returns : tie.Need-returns
 returns c =
     let s = c .before .before .before .before .before .before .before in
-    let h = searched (s .args .set) (s .pre .0) (s .pre .3) (c .before .before .before .costs .ensures) (c .before .settle .ensures) in (
+    let h = searched (s .args .set) (s .pre .0) (s .pre .3) (c .before .before .before .costs .ensures) (c .before .relax .ensures) in (
       says-immune h (s .pre .2) (λ q. getD (s .args .outputs .now) q 0) (length (s .args .area .now)) (s .pre .0 .states-most) (omega (arith, c .if1 .taken)),
       immune-keeps h (s .pre .2) (s .args .area .now) (s .pre .0 .states-most) (omega (arith, c .if1 .taken)),
     )
@@ -32,14 +32,14 @@ returns c =
 returns-2 : tie.Need-returns-2
 returns-2 c =
     let s = c .before .before .before .before .before .before .before .before in
-    let h = searched (s .args .set) (s .pre .0) (s .pre .3) (c .before .before .before .before .costs .ensures) (c .before .before .settle .ensures) in
+    let h = searched (s .args .set) (s .pre .0) (s .pre .3) (c .before .before .before .before .costs .ensures) (c .before .before .relax .ensures) in
     (says-no-room h (s .pre .2) (λ q. getD (s .args .outputs .now) q 0) (length (s .args .area .now)) (is-number h (s .pre .2) (c .before .if1 .left)) (c .if2 .taken), refl)
 
 witness-of-requires : tie.Need-witness-of-requires
 witness-of-requires c κs =
     let s = c .before .before .before .before .before .before .before .before .before .before .before in
-    let h = searched (s .args .set) (s .pre .0) (s .pre .3) (c .before .before .before .before .before .before .before .costs .ensures) (c .before .before .before .before .before .settle .ensures) in
-    (s .pre .0, s .pre .1, s .pre .2, s .pre .3, c .before .before .before .before .before .before .before .costs .ensures, c .before .before .before .before .before .settle .ensures, is-number h (s .pre .2) (c .before .before .before .before .if1 .left), c .before .before .before .if2 .left)
+    let h = searched (s .args .set) (s .pre .0) (s .pre .3) (c .before .before .before .before .before .before .before .costs .ensures) (c .before .before .before .before .before .relax .ensures) in
+    (s .pre .0, s .pre .1, s .pre .2, s .pre .3, c .before .before .before .before .before .before .before .costs .ensures, c .before .before .before .before .before .relax .ensures, is-number h (s .pre .2) (c .before .before .before .before .if1 .left), c .before .before .before .if2 .left)
 
 same-length : tie.Need-same-length
 same-length c = search needs
@@ -47,7 +47,7 @@ same-length c = search needs
 returns-3 : tie.Need-returns-3
 returns-3 c =
     let s = c .before .before .before .before .before .before .before .before .before .before .before .before .before .before in
-    let h = searched (s .args .set) (s .pre .0) (s .pre .3) (c .before .before .before .before .before .before .before .before .before .before .costs .ensures) (c .before .before .before .before .before .before .before .before .settle .ensures) in
+    let h = searched (s .args .set) (s .pre .0) (s .pre .3) (c .before .before .before .before .before .before .before .before .before .before .costs .ensures) (c .before .before .before .before .before .before .before .before .relax .ensures) in
     let low = is-number h (s .pre .2) (c .before .before .before .before .before .before .before .if1 .left) in
     let fits = c .before .before .before .before .before .before .if2 .left in
     let w = c .before .before .witness-of in (
@@ -60,7 +60,7 @@ examine-set-spec =
     tie.close
     (tie.spec
     costs-requires
-    settle-requires
+    relax-requires
     mul-distance
     array-read-distance
     returns

@@ -1,11 +1,11 @@
--- `settle` meets its contract: each round but the last takes from the sum of the totals.
+-- `relax` meets its contract: each round but the last takes from the sum of the totals.
 use native.Mathlib.Omega.{arith}
 use borrow.Author.Needs.{needs}
 use Rattle.monitor.specs.Format.{automatonOf}
 use Rattle.totals.specs.Totals.{sum}
 use Rattle.totals.proofs.Lowering.{Rounds, rounds-begin, rounds-go-on, rounds-end}
-use Rattle.totals.proofs.settle.Statement.{statement}
-use Rattle.totals.proofs.settle.Tie as tie
+use Rattle.totals.proofs.relax.Statement.{statement}
+use Rattle.totals.proofs.relax.Tie as tie
 
 abbrev Inv-loop : tie.InvT-loop
 Inv-loop totals₀ nexts n k totals = Rounds (automatonOf n k nexts) totals₀ totals
@@ -28,6 +28,6 @@ loop-again c = rounds-go-on (c .before .before .before .loop .inv) (c .before .l
 returns : tie.Need-returns Inv-loop μ-loop
 returns c = rounds-end (c .before .before .before .loop .inv) (c .before .lower-all .ensures) (c .if1 .left)
 
-pub settle-spec : {M : Type 1} → statement M
-settle-spec =
+pub relax-spec : {M : Type 1} → statement M
+relax-spec =
     tie.close (tie.spec Inv-loop μ-loop loop-holds lower-all-requires loop-less loop-again returns)
