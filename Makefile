@@ -13,6 +13,7 @@ test:
 	@set -euo pipefail; log=$$(mktemp); trap 'rm -f "$$log"' EXIT; \
 	rt ci 2>&1 | tee "$$log"; \
 	python3 tests/compare.py; \
+	python3 tests/brute.py | diff tests/brute.expected -; cat tests/brute.expected; \
 	tail -n 1 "$$log"
 
 .PHONY: sample test

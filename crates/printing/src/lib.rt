@@ -1,5 +1,9 @@
 // The words and lines that programs print. No contract can say what is written: programs compare their output with a stored one.
 use classes::Classification;
+use immunity::Carded;
+use immunity::Finding;
+use immunity::LinkCard;
+use immunity::Witness;
 use monitor::Judgement;
 use monitor::Refusal;
 use readings::Stepped;
@@ -96,5 +100,55 @@ pub fn traced(answer: Traced) {
             text(b"reads ");
             number(reading);
         }
+    }
+}
+
+fn witness(w: Witness) {
+    text(b"vulnerable distance ");
+    number(w.distance);
+    text(b" before ");
+    number(w.before);
+    text(b" kind ");
+    number(w.kind);
+    text(b" replacement ");
+    number(w.replacement);
+    text(b" readings ");
+    number(w.sent);
+    text(b" ");
+    number(w.received);
+}
+
+pub fn finding(answer: Finding) {
+    match answer {
+        Finding::Refused(r) => refusal(r),
+        Finding::Immune => text(b"immune"),
+        Finding::Vulnerable(w) => witness(w),
+    }
+}
+
+// A distance after a space, `-` where it is missing.
+fn column(distance: usize) {
+    text(b" ");
+    if distance == 0 {
+        text(b"-");
+        return;
+    }
+    number(distance);
+}
+
+fn link_card(card: LinkCard) {
+    number(card.states);
+    text(b" ");
+    monitorability_word(card.monitorability);
+    column(card.loss);
+    column(card.corruption);
+    column(card.repeat);
+    column(card.swap);
+}
+
+pub fn carded(answer: Carded) {
+    match answer {
+        Carded::Card(card) => link_card(card),
+        Carded::Refused(r) => refusal(r),
     }
 }

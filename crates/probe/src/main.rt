@@ -13,10 +13,20 @@ fn classify(room: usize, body: &[u8]) {
     }
 }
 
-// Call 3: the numbers are the reading and the length of the trace, which stands before the body.
+// Call 3, and every number that names no other call: the numbers are the reading and the length of the trace, which stands before the body.
 fn trace(domain: usize, length: usize, bytes: &[u8]) {
     if length <= bytes.len() {
         printing::traced(readings::trace(&bytes[length..], domain, &bytes[0..length]));
+    }
+}
+
+// Call 4: the numbers are the fault set, the reading and the length of the area, which is full of 255 before the call.
+fn examine(set: usize, domain: usize, room: usize, body: &[u8]) {
+    let mut area = [255u8; 256];
+    if room <= 256 {
+        let lent = &mut area[0..room];
+        printing::finding(immunity::examine(body, set, domain, lent));
+        printing::bytes(lent);
     }
 }
 
@@ -33,6 +43,8 @@ fn answer(frame: &[u8]) {
         0 => printing::judgement(monitor::judge(bytes)),
         1 => classify(a, bytes),
         2 => printing::stepped(readings::step(bytes, a, b, c)),
+        4 => examine(a, b, c, bytes),
+        5 => printing::carded(immunity::card(bytes)),
         _ => trace(a, b, bytes),
     }
     printing::text(b"\n");

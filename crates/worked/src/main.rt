@@ -1,0 +1,166 @@
+// Worked examples of the fault question and the card, one line each. The stored output has what they must be.
+use faults::FaultSet;
+
+// The finding, and what the area then holds. Every place of the area is 255 before.
+fn example(name: &[u8], body: &[u8], set: usize, domain: usize, room: usize) {
+    printing::text(name);
+    printing::text(b", set ");
+    printing::number(set);
+    printing::text(b", reading ");
+    printing::number(domain);
+    printing::text(b": ");
+    let mut area = [255u8; 4];
+    if room <= 4 {
+        let lent = &mut area[0..room];
+        printing::finding(immunity::examine(body, set, domain, lent));
+        printing::text(b", area");
+        printing::bytes(lent);
+    }
+    printing::text(b"\n");
+}
+
+fn both(name: &[u8], body: &[u8], set: usize) {
+    example(name, body, set, 3, 4);
+    example(name, body, set, 6, 4);
+}
+
+fn card(name: &[u8], body: &[u8]) {
+    printing::text(name);
+    printing::text(b", card: ");
+    printing::carded(immunity::card(body));
+    printing::text(b"\n");
+}
+
+// Each fault alone, and the card.
+fn table(name: &[u8], body: &[u8]) {
+    both(name, body, FaultSet::empty().with(FaultSet::LOSS).bits);
+    both(
+        name,
+        body,
+        FaultSet::empty().with(FaultSet::CORRUPTION).bits,
+    );
+    both(name, body, FaultSet::empty().with(FaultSet::REPEAT).bits);
+    both(name, body, FaultSet::empty().with(FaultSet::SWAP).bits);
+    card(name, body);
+}
+
+fn trace(name: &[u8], body: &[u8], symbols: &[u8]) {
+    printing::text(name);
+    printing::traced(readings::trace(body, 3, symbols));
+    printing::text(b"\n");
+}
+
+fn tables() {
+    table(b"A", b"\x02\x02\x00\x00\x01\x00\x01\x01\x01");
+    table(b"B", b"\x02\x02\x00\x00\x02\x01\x00\x01\x01");
+    table(
+        b"C",
+        b"\x03\x04\x00\x00\x01\x02\x02\x00\x01\x01\x01\x01\x01\x01\x02\x02\x02\x02",
+    );
+    table(b"D", b"\x01\x02\x00\x00\x00\x00");
+    table(b"E", b"\x03\x02\x00\x00\x00\x01\x00\x01\x00\x02\x02\x02");
+    table(
+        b"G",
+        b"\x05\x02\x00\x00\x00\x01\x00\x02\x03\x01\x01\x02\x02\x02\x04\x03\x04\x04",
+    );
+    table(b"H", b"\x02\x01\x00\x00\x01\x01\x01");
+    card(b"A with a mark 3", b"\x02\x02\x00\x00\x03\x00\x01\x01\x01");
+}
+
+// Series are compared, not traces: the kind before the sent messages, and a fault step before a plain one.
+fn written_order() {
+    both(
+        b"A",
+        b"\x02\x02\x00\x00\x01\x00\x01\x01\x01",
+        FaultSet::empty()
+            .with(FaultSet::LOSS)
+            .with(FaultSet::CORRUPTION)
+            .bits,
+    );
+    both(
+        b"0 0 harmed too",
+        b"\x03\x02\x00\x00\x00\x01\x01\x00\x00\x02\x02\x02",
+        FaultSet::empty().with(FaultSet::CORRUPTION).bits,
+    );
+    both(
+        b"0 0 1 harmed too",
+        b"\x03\x02\x00\x00\x00\x01\x01\x00\x02\x00\x02\x02",
+        FaultSet::empty().with(FaultSet::SWAP).bits,
+    );
+}
+
+// The sent trace 1 is harmed by two repeats and by no single one.
+fn three_ones() {
+    let body = b"\x04\x02\x00\x00\x00\x00\x01\x00\x01\x00\x02\x00\x03\x03\x03";
+    both(
+        b"three 1s",
+        body,
+        FaultSet::empty().with(FaultSet::REPEAT).bits,
+    );
+    trace(b"three 1s on 1: ", body, b"\x01");
+    trace(b"three 1s on 1 1: ", body, b"\x01\x01");
+    trace(b"three 1s on 1 1 1: ", body, b"\x01\x01\x01");
+}
+
+fn immune() {
+    let all = FaultSet::empty()
+        .with(FaultSet::LOSS)
+        .with(FaultSet::CORRUPTION)
+        .with(FaultSet::REPEAT)
+        .with(FaultSet::SWAP)
+        .bits;
+    let d = b"\x01\x02\x00\x00\x00\x00";
+    both(b"D", d, all);
+    example(b"D, area of 0", d, all, 3, 0);
+    both(
+        b"A",
+        b"\x02\x02\x00\x00\x01\x00\x01\x01\x01",
+        FaultSet::empty()
+            .with(FaultSet::REPEAT)
+            .with(FaultSet::SWAP)
+            .bits,
+    );
+    both(
+        b"harm out of reach",
+        b"\x03\x02\x00\x01\x00\x02\x00\x00\x01\x02\x02\x02",
+        all,
+    );
+    both(
+        b"two states that read alike",
+        b"\x02\x02\x00\x00\x00\x01\x00\x00\x01",
+        all,
+    );
+    both(
+        b"E",
+        b"\x03\x02\x00\x00\x00\x01\x00\x01\x00\x02\x02\x02",
+        FaultSet::empty().bits,
+    );
+}
+
+// Question 13, and questions 9 and 10 in this order after those of the body. Numbers that do not fit a byte are not cut.
+fn refusals() {
+    let e = b"\x03\x02\x00\x00\x00\x01\x00\x01\x00\x02\x02\x02";
+    let swap = FaultSet::empty().with(FaultSet::SWAP).bits;
+    example(b"E, area of 3", e, swap, 3, 3);
+    example(b"E, area of 2", e, swap, 3, 2);
+    example(b"E", e, FaultSet::empty().with(16).bits, 3, 4);
+    example(b"E", e, FaultSet::empty().with(257).bits, 3, 4);
+    example(b"E", e, FaultSet::empty().with(99).bits, 5, 4);
+    example(b"E", e, swap, 5, 4);
+    example(b"E", e, swap, 259, 4);
+    example(
+        b"2 bytes",
+        b"\x02\x02",
+        FaultSet::empty().with(99).bits,
+        5,
+        4,
+    );
+}
+
+fn main() {
+    tables();
+    written_order();
+    three_ones();
+    immune();
+    refusals();
+}
