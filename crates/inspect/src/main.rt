@@ -1,5 +1,6 @@
-// Reads the body of one table from standard input. Prints its monitorability and the number of states reached, then the class of each state.
+// Reads the body of one table from standard input. Prints its monitorability and the number of states reached, the class of each state, and the distance under each fault.
 use classes::Classification;
+use immunity::Carded;
 
 // The number of a state and its class.
 fn state_line(q: usize, class: u8) {
@@ -24,6 +25,23 @@ fn filled_lines(area: &[u8], n: usize) {
     }
 }
 
+// The word and the distance, `-` where it is missing.
+fn distance_line(word: &[u8], distance: usize) {
+    printing::text(word);
+    printing::column(distance);
+    printing::text(b"\n");
+}
+
+fn distance_lines(body: &[u8]) {
+    let Carded::Card(card) = immunity::card(body) else {
+        return;
+    };
+    distance_line(b"loss", card.loss);
+    distance_line(b"corruption", card.corruption);
+    distance_line(b"repeat", card.repeat);
+    distance_line(b"swap", card.swap);
+}
+
 fn report(body: &[u8]) {
     let mut area = [0u8; 64];
     let answer = classes::classify(body, &mut area);
@@ -33,6 +51,7 @@ fn report(body: &[u8]) {
         return;
     };
     filled_lines(&area, monitor::byte_at(body, 0));
+    distance_lines(body);
 }
 
 fn main() {

@@ -127,7 +127,7 @@ pub fn finding(answer: Finding) {
 }
 
 // A distance after a space, `-` where it is missing.
-fn column(distance: usize) {
+pub fn column(distance: usize) {
     text(b" ");
     if distance == 0 {
         text(b"-");
