@@ -1,25 +1,35 @@
 -- The square row by row: where an entry stands, what a store changes; and the square before the first round.
 use mathlib.Core.Path.{_≡_, refl, ap, _∙_, subst}
-use mathlib.Core.Bool.{Bool, true, false, cond, not}
+use mathlib.Core.Bool.{Bool, true, false, cond}
 use mathlib.Core.List.{List}
 use mathlib.Core.Logic.{_⊎_, inl, inr, ⊎-elim}
 use Prim.Native.Nat.{ℕ, _+_, _*_, _≤_, _<_}
 use native.Mathlib.Omega.{arith}
 use lib.Dec.{eqb}
-use lib.ListN.{length, getD, set, length-set}
+use lib.ListN.{length, set, replicate, length-set, length-replicate, getD-replicate}
 use lib.Seq.{getD-set-same, getD-set-other}
 use Rattle.theory.specs.Monitor.{stateLimit}
 use Rattle.theory.proofs.Below.{lt-or-le}
-use Rattle.pairs.specs.Square.{never, squareSize, entry, differing, begun, begins, Begun, Fresh}
+use Rattle.pairs.specs.Square.{never, squareSize, entry, differing, begun, begins, Blank, Begun, Fresh}
 
 -- ---- places of the square
 
--- a store at the place of p and q leaves the entries of other pairs
-pub store-here : (d : List ℕ) (p q v : ℕ) → length d ≡ squareSize → p < stateLimit → q < stateLimit → entry (set d (p * stateLimit + q) v) p q ≡ v
-store-here d p q v e lp lq = getD-set-same d (p * stateLimit + q) v 0 (omega arith)
+-- v stored for p and q where the test u holds: the entries of other pairs stay
+abbrev pub stored : List ℕ → ℕ → ℕ → ℕ → Bool → List ℕ
+stored d p q v u = cond u (set d (p * stateLimit + q) v) d
 
-pub store-elsewhere : (d : List ℕ) (p q v x y : ℕ) → (x * stateLimit + y ≡ p * stateLimit + q → ⊥) → entry (set d (p * stateLimit + q) v) x y ≡ entry d x y
-store-elsewhere d p q v x y ne = getD-set-other d (p * stateLimit + q) (x * stateLimit + y) v 0 ne
+module _ (d : List ℕ) (size : length d ≡ squareSize) (p q v : ℕ) where
+  pub stored-size : (u : Bool) → length (stored d p q v u) ≡ squareSize
+  stored-size true = length-set d (p * stateLimit + q) v ∙ size
+  stored-size false = size
+
+  pub stored-here : p < stateLimit → q < stateLimit → (u : Bool) → entry (stored d p q v u) p q ≡ cond u v (entry d p q)
+  stored-here lp lq true = getD-set-same d (p * stateLimit + q) v 0 (omega arith)
+  stored-here lp lq false = refl
+
+  pub stored-elsewhere : (u : Bool) (x y : ℕ) → (x * stateLimit + y ≡ p * stateLimit + q → ⊥) → entry (stored d p q v u) x y ≡ entry d x y
+  stored-elsewhere true x y ne = getD-set-other d (p * stateLimit + q) (x * stateLimit + y) v 0 ne
+  stored-elsewhere false x y ne = refl
 
 -- what holds of all pairs before the place of p and q, and of p and q, holds of all pairs before the next place
 pub one-more : (P : ℕ → ℕ → Type 0) (n p q : ℕ) → n ≤ stateLimit → q < n
@@ -40,41 +50,47 @@ row-done n p q x y m e ly l = omega arith
 
 -- ---- before the first round
 
-pub begun-none : {outs d : List ℕ} → length d ≡ squareSize → Begun outs 0 d
-begun-none e = record { size = e; done = λ p q lp lq l. absurd (omega arith) }
+pub blank-filled : Blank (replicate squareSize never)
+blank-filled = record { size = length-replicate {A = ℕ} squareSize never; filled = λ i l. getD-replicate {A = ℕ} squareSize i never 0 l }
 
 module _ {outs : List ℕ} (m : length outs ≤ stateLimit) where
-  pub begun-turn : {d : List ℕ} (p q : ℕ) {v : ℕ} → p < length outs → q < length outs → Begun outs (p * stateLimit + q) d → v ≡ begun outs p q
-      → Begun outs (p * stateLimit + (q + 1)) (set d (p * stateLimit + q) v)
-  begun-turn {d} p q {v} lp lq b e = record {
-    size = length-set d (p * stateLimit + q) v ∙ b .size;
-    done = one-more (λ x y. entry (set d (p * stateLimit + q) v) x y ≡ begun outs x y) (length outs) p q m lq
-        (λ x y lx ly l. store-elsewhere d p q v x y (λ h. omega arith) ∙ b .done x y lx ly l)
-        (store-here d p q v (b .size) (omega arith) (omega arith) ∙ e);
-  }
+  pub begun-none : {d : List ℕ} → Blank d → Begun outs 0 d
+  begun-none b = record { size = b .size; done = λ p q lp lq l. absurd (omega arith); rest = λ p q lp lq _. b .filled (p * stateLimit + q) (omega arith) }
 
-  pub begun-row : {d : List ℕ} (p q : ℕ) → Begun outs (p * stateLimit + q) d → length outs ≤ q → Begun outs ((p + 1) * stateLimit) d
-  begun-row p q b e = record { size = b .size; done = λ x y lx ly l. b .done x y lx ly (row-done (length outs) p q x y m e ly l) }
+  pub begun-turn : (p q : ℕ) → p < length outs → q < length outs → {d e : List ℕ} → Begun outs (p * stateLimit + q) d → e ≡ stored d p q 0 (differing outs p q) → Begun outs (p * stateLimit + (q + 1)) e
+  begun-turn p q lp lq {d} b h =
+      let u = differing outs p q in
+      rw h (record {
+        size = stored-size d (b .size) p q 0 u;
+        done = one-more (λ x y. entry (stored d p q 0 u) x y ≡ begun outs x y) (length outs) p q m lq
+            (λ x y lx ly l. stored-elsewhere d (b .size) p q 0 u x y (λ h. omega arith) ∙ b .done x y lx ly l)
+            (stored-here d (b .size) p q 0 (omega arith) (omega arith) u ∙ ap (cond u 0) (b .rest p q lp lq (omega arith)));
+        rest = λ x y lx ly l. stored-elsewhere d (b .size) p q 0 u x y (λ h. omega arith) ∙ b .rest x y lx ly (omega arith);
+      })
+
+  pub begun-row : {d : List ℕ} (p q : ℕ) → Begun outs (p * stateLimit + q) d → q ≤ length outs → length outs ≤ q → Begun outs ((p + 1) * stateLimit) d
+  begun-row p q b u e = record {
+    size = b .size;
+    done = λ x y lx ly l. b .done x y lx ly (row-done (length outs) p q x y m e ly l);
+    rest = λ x y lx ly l. b .rest x y lx ly (omega arith);
+  }
 
   -- all rows are done
   module _ {n : ℕ} (same : length outs ≡ n) {d : List ℕ} (b : Begun outs (length outs * stateLimit) d) (p q : ℕ) (lp : p < n) (lq : q < n) where
-    abbrev alike : Bool
-    alike = eqb (getD outs p 0) (getD outs q 0)
-
     known : entry d p q ≡ begun outs p q
     known = b .done p q (omega arith) (omega arith) (omega arith)
 
     begun-either : (entry d p q ≡ 0) ⊎ (entry d p q ≡ never)
-    begun-either = go alike known
+    begun-either = go (differing outs p q) known
       where
-        go : {e : ℕ} (t : Bool) → e ≡ cond t never 0 → (e ≡ 0) ⊎ (e ≡ never)
-        go true h = inr h
-        go false h = inl h
+        go : {e : ℕ} (t : Bool) → e ≡ cond t 0 never → (e ≡ 0) ⊎ (e ≡ never)
+        go true h = inl h
+        go false h = inr h
 
     pub begins-differing : begins d p q ≡ differing outs p q
-    begins-differing = ap (λ (e : ℕ). eqb e 0) known ∙ go alike
+    begins-differing = ap (λ (e : ℕ). eqb e 0) known ∙ go (differing outs p q)
       where
-        go : (t : Bool) → eqb (cond t never 0) 0 ≡ not t
+        go : (t : Bool) → eqb (cond t 0 never) 0 ≡ t
         go true = refl
         go false = refl
 

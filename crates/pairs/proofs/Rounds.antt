@@ -8,7 +8,7 @@ use native.Mathlib.Nat.{le-refl, le-antisymm, mul-le-mul}
 use native.Mathlib.Numerals.{add-one}
 use native.Mathlib.Omega.{arith}
 use lib.Dec.{eqb, leb, eqb·suc-zero, leb·suc-zero}
-use lib.ListN.{length, set, length-set}
+use lib.ListN.{length}
 use borrow.Author.Tests.{eqb-true, eqb-false, le-leb, lt-leb, leb-true}
 use Rattle.theory.specs.Below.{any}
 use Rattle.theory.specs.Automaton.{Automaton, Closed}
@@ -17,8 +17,8 @@ use Rattle.theory.specs.Pairs.{Tells, told}
 use Rattle.theory.specs.Distance.{Shortest}
 use Rattle.theory.proofs.Below.{clash, lt-or-le, or-right, and-left, and-right, any-at, any-same, any-more}
 use Rattle.theory.proofs.Pairs.{onward, told-sound, told-complete, told-more, told-up, still-ever, told-settled, tells-same}
-use Rattle.pairs.specs.Square.{never, squareSize, entry, Noted, Squared, begins, leadsWithin, adds, Fresh, Stage, New, Midway}
-use Rattle.pairs.proofs.Entries.{store-here, store-elsewhere, one-more, row-done}
+use Rattle.pairs.specs.Square.{never, squareSize, entry, Noted, Squared, New, Rounds, begins, leadsWithin, adds, Fresh, Stage, Midway}
+use Rattle.pairs.proofs.Entries.{stored, stored-size, stored-here, stored-elsewhere, one-more, row-done}
 
 -- ---- the symbols of one pair
 
@@ -27,12 +27,12 @@ module _ (g : Automaton) (d : List ℕ) (r p q : ℕ) where
   abbrev pub within : ℕ → Bool
   within a = leb (entry d (g .next p a) (g .next q a)) r
 
-  module _ (a : ℕ) {x y : ℕ} (ex : x ≡ g .next p a) (ey : y ≡ g .next q a) where
-    pub within-here : entry d x y ≤ r → a < g .symbols → true ≡ leadsWithin g d r p q
-    within-here h l = sym (any-at (g .symbols) within a l (rw (← ex, ← ey) (le-leb (entry d x y) r h)))
+  module _ (a : ℕ) {x y e : ℕ} (ex : x ≡ g .next p a) (ey : y ≡ g .next q a) (ee : e ≡ entry d x y) where
+    pub within-here : e ≤ r → a < g .symbols → true ≡ leadsWithin g d r p q
+    within-here h l = sym (any-at (g .symbols) within a l (rw (← ex, ← ey, ← ee) (le-leb e r h)))
 
-    pub within-turn : r < entry d x y → false ≡ any a within → false ≡ any (a + 1) within
-    within-turn h o = sym (any-more a within ∙ rw (← o, ← ex, ← ey) (lt-leb (entry d x y) r h))
+    pub within-turn : r < e → false ≡ any a within → false ≡ any (a + 1) within
+    within-turn h o = sym (any-more a within ∙ rw (← o, ← ex, ← ey, ← ee) (lt-leb e r h))
 
   pub within-end : {a : ℕ} → a ≤ g .symbols → g .symbols ≤ a → any a within ≡ leadsWithin g d r p q
   within-end l h = ap (λ (x : ℕ). any x within) (le-antisymm l h)
@@ -137,19 +137,10 @@ module _ {g : Automaton} (c : Closed g) (m : g .states ≤ stateLimit) {ends : �
 
   module _ (fits : r + 1 < never) (p q : ℕ) (lp : p < g .states) (lq : q < g .states) {a : ℕ} {d : List ℕ} (w : Midway g ends r (p * stateLimit + q) a d) where
     abbrev new : Bool → List ℕ
-    new u = cond u (set d (p * stateLimit + q) (r + 1)) d
-
-    size-new : (u : Bool) → length (new u) ≡ squareSize
-    size-new true = length-set d (p * stateLimit + q) (r + 1) ∙ w .size
-    size-new false = w .size
-
-    here : (u : Bool) → cond u (r + 1) (entry d p q) ≡ entry (new u) p q
-    here true = sym (store-here d p q (r + 1) (w .size) (omega arith) (omega arith))
-    here false = refl
+    new u = stored d p q (r + 1) u
 
     elsewhere : (u : Bool) (x y : ℕ) → (x * stateLimit + y ≡ p * stateLimit + q → ⊥) → entry d x y ≡ entry (new u) x y
-    elsewhere true x y ne = sym (store-elsewhere d p q (r + 1) x y ne)
-    elsewhere false x y ne = refl
+    elsewhere u x y ne = sym (stored-elsewhere d (w .size) p q (r + 1) u x y ne)
 
     stage-here : Stage g ends r p q (entry d p q)
     stage-here = w .rest p q lp lq (le-refl (p * stateLimit + q))
@@ -170,10 +161,10 @@ module _ {g : Automaton} (c : Closed g) (m : g .states ≤ stateLimit) {ends : �
     turned =
         let u = adds g d r p q in
         record {
-          size = size-new u;
+          size = stored-size d (w .size) p q (r + 1) u;
           done = one-more (λ x y. Stage g ends (suc r) x y (entry (new u) x y)) (g .states) p q m lq
               (λ x y lx ly l. subst (Stage g ends (suc r) x y) (elsewhere u x y (λ h. omega arith)) (w .done x y lx ly l))
-              (subst (Stage g ends (suc r) p q) (here u) (stage-next g ends r p q fits stage-here leads));
+              (subst (Stage g ends (suc r) p q) (sym (stored-here d (w .size) p q (r + 1) (omega arith) (omega arith) u)) (stage-next g ends r p q fits stage-here leads));
           rest = λ x y lx ly l. subst (Stage g ends r x y) (elsewhere u x y (λ h. omega arith)) (w .rest x y lx ly (omega arith));
           still = λ z. one-more (λ x y. told g ends (suc r) x y ≡ told g ends r x y) (g .states) p q m lq (w .still (omega arith))
               (stage-same g ends r p q fits stage-here leads (none u z));
@@ -212,6 +203,14 @@ module _ {g : Automaton} (c : Closed g) (m : g .states ≤ stateLimit) {ends : �
         (told-up g ends (g .states * g .states) r (x .first) (x .second) h (told-settled g ends c (suc r) (x .first) (x .second) (x .first-in) (x .second-in) (x .now)))
         (x .not-yet)))
         (lt-or-le r (g .states * g .states))
+
+    -- all rounds before added something, and so does this one
+    pub rounds-more : 0 < b → ((s : ℕ) → s < r → New g ends s) → (s : ℕ) → s < r + 1 → New g ends s
+    rounds-more l new s h = ⊎-elim (new s) (λ e. (let z : r ≡ s = omega arith in subst (New g ends) z (w .moved l))) (lt-or-le s r)
+
+    -- this round is the first that adds nothing
+    pub rounds-end : b ≤ 0 → ((s : ℕ) → s < r → New g ends s) → Rounds g ends r
+    rounds-end l new = record { still = λ p q lp lq. w .still (omega arith) p q lp lq (omega arith); new = new }
 
     -- a round that added nothing: the square is finished
     module _ (fits : r + 1 < never) (z : b ≤ 0) where

@@ -35,6 +35,20 @@ pub record Squared (g : Automaton) (ends : ℕ → ℕ → Bool) (d : List ℕ) 
   pub size : length d ≡ squareSize
   pub noted : (p q : ℕ) → p < g .states → q < g .states → Noted (Tells g ends p q) (entry d p q)
 
+-- two states told apart within r + 1 symbols and not within r
+pub record New (g : Automaton) (ends : ℕ → ℕ → Bool) (r : ℕ) : Type 0 where
+  pub first : ℕ
+  pub second : ℕ
+  pub first-in : first < g .states
+  pub second-in : second < g .states
+  pub not-yet : told g ends r first second ≡ false
+  pub now : told g ends (suc r) first second ≡ true
+
+-- r is the least number for which r and r + 1 symbols tell the same pairs apart: so many rounds add a pair
+pub record Rounds (g : Automaton) (ends : ℕ → ℕ → Bool) (r : ℕ) : Type 0 where
+  pub still : (p q : ℕ) → p < g .states → q < g .states → told g ends (suc r) p q ≡ told g ends r p q
+  pub new : (s : ℕ) → s < r → New g ends s
+
 -- ---- what the functions below require of each other
 
 -- two states whose outputs differ
@@ -43,7 +57,7 @@ differing outs p q = not (eqb (getD outs p 0) (getD outs q 0))
 
 -- the entry of a pair before the first round, by its outputs
 abbrev pub begun : List ℕ → ℕ → ℕ → ℕ
-begun outs p q = cond (eqb (getD outs p 0) (getD outs q 0)) never 0
+begun outs p q = cond (differing outs p q) 0 never
 
 -- some symbol leads from p and q to a pair told apart within r
 abbrev pub leadsWithin : Automaton → List ℕ → ℕ → ℕ → ℕ → Bool
@@ -53,10 +67,16 @@ leadsWithin g d r p q = any (g .symbols) (λ a. leb (entry d (g .next p a) (g .n
 abbrev pub adds : Automaton → List ℕ → ℕ → ℕ → ℕ → Bool
 adds g d r p q = eqb (entry d p q) never && leadsWithin g d r p q
 
--- the square before the first round, up to place i (row by row)
+-- the square as it is filled: no pair is told apart
+pub record Blank (d : List ℕ) : Type 0 where
+  pub size : length d ≡ squareSize
+  pub filled : (i : ℕ) → i < squareSize → getD d i 0 ≡ never
+
+-- the square before the first round: the pairs before place i (row by row) are as their outputs say, the others as filled
 pub record Begun (outs : List ℕ) (i : ℕ) (d : List ℕ) : Type 0 where
   pub size : length d ≡ squareSize
   pub done : (p q : ℕ) → p < length outs → q < length outs → p * stateLimit + q < i → entry d p q ≡ begun outs p q
+  pub rest : (p q : ℕ) → p < length outs → q < length outs → i ≤ p * stateLimit + q → entry d p q ≡ never
 
 -- the test that a square begins with: the pair is at 0
 abbrev pub begins : List ℕ → ℕ → ℕ → Bool
@@ -71,15 +91,6 @@ pub record Fresh (n : ℕ) (d : List ℕ) : Type 0 where
 pub record Stage (g : Automaton) (ends : ℕ → ℕ → Bool) (r p q e : ℕ) : Type 0 where
   pub agrees : (s : ℕ) → s ≤ r → told g ends s p q ≡ leb e s
   pub known : (e ≤ r) ⊎ (e ≡ never)
-
--- two states told apart within r + 1 symbols and not within r
-pub record New (g : Automaton) (ends : ℕ → ℕ → Bool) (r : ℕ) : Type 0 where
-  pub first : ℕ
-  pub second : ℕ
-  pub first-in : first < g .states
-  pub second-in : second < g .states
-  pub not-yet : told g ends r first second ≡ false
-  pub now : told g ends (suc r) first second ≡ true
 
 -- the square in the middle of the round after r: the pairs before place i (row by row) have had it, the others not; `added` counts those that are new
 pub record Midway (g : Automaton) (ends : ℕ → ℕ → Bool) (r i added : ℕ) (d : List ℕ) : Type 0 where

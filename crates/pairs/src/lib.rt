@@ -1,18 +1,21 @@
 // The square of pair distances: for every two states, the fewest symbols that tell them apart.
+use theory::SQUARE_SIZE;
 use theory::STATE_LIMIT;
 ghost use mathlib.Core.Path.{_≡_};
 ghost use mathlib.Core.Bool.{Bool, cond};
 ghost use Prim.Native.Nat.{ℕ, _+_, _*_, _≤_, _<_};
 ghost use lib.ListN.{length, set};
 ghost use lib.Seq.{sets};
-ghost use lib.Dec.{eqb};
 ghost use Rattle.theory.specs.Automaton.{run};
 ghost use Rattle.theory.specs.Monitor.{stateLimit};
 ghost use Rattle.monitor.specs.Format.{Rows, automatonOf};
-ghost use Rattle.pairs.specs.Square.{never, squareSize, entry, Squared, differing, Begun, begins, Fresh, leadsWithin, adds, Midway, nearer, Falling, path};
+ghost use Rattle.pairs.specs.Square.{never, entry, Squared, Rounds, differing, Blank, Begun, begins, Fresh, leadsWithin, adds, Midway, nearer, Falling, path};
 
-// A pair that is not told apart.
-pub const NEVER: u16 = 65535;
+// Not told apart. Any smaller number counts symbols.
+pub const NEVER: usize = 65535;
+
+// The same as an entry of the square.
+const NEVER_ENTRY: u16 = NEVER as u16;
 
 // Two states, reached by the sent and by the received trace.
 pub struct Pair {
@@ -20,13 +23,14 @@ pub struct Pair {
     pub received: usize,
 }
 
-// A square in which no pair is told apart.
-fn blank() -> [u16; 4096]
-    ensures { λ r. ⌜ length r ≡ squareSize ⌝ }
+// The square filled with "not told apart".
+fn blank() -> [u16; SQUARE_SIZE]
+    ensures { λ r. ⌜ Blank r ⌝ }
 {
-    [NEVER; 4096]
+    [NEVER_ENTRY; SQUARE_SIZE]
 }
 
+// An entry as a number of symbols.
 fn wide(entry: u16) -> usize
     ensures { λ r. ⌜ (r ≡ entry) × (r < 65536) ⌝ }
 {
@@ -34,38 +38,39 @@ fn wide(entry: u16) -> usize
 }
 
 // What the square holds for two states.
-pub fn entry_at(square: &[u16; 4096], p: usize, q: usize) -> usize
+pub fn entry_at(square: &[u16; SQUARE_SIZE], p: usize, q: usize) -> usize
     requires { ⌜ (p < stateLimit) × (q < stateLimit) ⌝ }
     ensures { λ r. ⌜ (r ≡ entry (now (square .entry)) p q) × (r ≤ never) ⌝ }
 {
     wide(square[p * STATE_LIMIT + q])
 }
 
-// The entry before the first round, of two states with these outputs.
-fn begun_with(a: u8, b: u8) -> u16
-    ensures { λ r. ⌜ r ≡ cond (eqb a b) never 0 ⌝ }
+// Enters 0 for p and q where their outputs differ.
+fn begin_pair(square: &mut [u16; SQUARE_SIZE], outputs: &[u8], p: usize, q: usize)
+    requires { ⌜ (length (now outputs) ≤ stateLimit) × (p < length (now outputs)) × (q < length (now outputs)) ⌝ }
+    ensures { λ _. ⌜ now (square .exit) ≡ cond (differing (now (outputs .entry)) p q) (set (now (square .entry)) (p * stateLimit + q) 0) (now (square .entry)) ⌝ }
 {
-    if a == b {
-        return NEVER;
+    if outputs[p] == outputs[q] {
+        return;
     }
-    0
+    square[p * STATE_LIMIT + q] = 0;
 }
 
 // Enters 0 in row p for each state whose output differs from that of p.
-fn begin_row(square: &mut [u16; 4096], outputs: &[u8], p: usize)
+fn begin_row(square: &mut [u16; SQUARE_SIZE], outputs: &[u8], p: usize)
     requires { ⌜ (length (now outputs) ≤ stateLimit) × (p < length (now outputs)) × Begun (now outputs) (p * stateLimit) (now square) ⌝ }
     ensures { λ _. ⌜ Begun (now (outputs .entry)) ((p + 1) * stateLimit) (now (square .exit)) ⌝ }
 {
     let mut q = 0;
     while q < outputs.len() {
-        square[p * STATE_LIMIT + q] = begun_with(outputs[p], outputs[q]);
+        begin_pair(square, outputs, p, q);
         q += 1;
     }
 }
 
 // The square before the first round: states whose outputs differ are told apart by no symbol.
-fn begin(square: &mut [u16; 4096], outputs: &[u8])
-    requires { ⌜ (length (now outputs) ≤ stateLimit) × (length (now square) ≡ squareSize) ⌝ }
+fn begin(square: &mut [u16; SQUARE_SIZE], outputs: &[u8])
+    requires { ⌜ (length (now outputs) ≤ stateLimit) × Blank (now square) ⌝ }
     ensures { λ _. ⌜ Begun (now (outputs .entry)) (length (now (outputs .entry)) * stateLimit) (now (square .exit)) ⌝ }
 {
     let mut p = 0;
@@ -77,11 +82,11 @@ fn begin(square: &mut [u16; 4096], outputs: &[u8])
 
 // Whether some symbol leads from p and q to a pair told apart within r.
 fn leads_within(
-    square: &[u16; 4096],
+    square: &[u16; SQUARE_SIZE],
     nexts: &[u8],
     n: usize,
     k: usize,
-    r: u16,
+    r: usize,
     p: usize,
     q: usize,
 ) -> bool
@@ -92,7 +97,7 @@ fn leads_within(
     while a < k {
         let x = monitor::successor(nexts, n, k, p, a);
         let y = monitor::successor(nexts, n, k, q, a);
-        if square[x * STATE_LIMIT + y] <= r {
+        if entry_at(square, x, y) <= r {
             return true;
         }
         a += 1;
@@ -102,11 +107,11 @@ fn leads_within(
 
 // The round after r at one pair. Returns 1 where the pair is new, else 0.
 fn refine_pair(
-    square: &mut [u16; 4096],
+    square: &mut [u16; SQUARE_SIZE],
     nexts: &[u8],
     n: usize,
     k: usize,
-    r: u16,
+    r: usize,
     p: usize,
     q: usize,
 ) -> usize
@@ -114,11 +119,11 @@ fn refine_pair(
     ensures added { λ b. ⌜ b ≡ cond (adds (automatonOf n k (now (nexts .entry))) (now (square .entry)) r p q) 1 0 ⌝ }
     ensures square { λ _. ⌜ now (square .exit) ≡ cond (adds (automatonOf n k (now (nexts .entry))) (now (square .entry)) r p q) (set (now (square .entry)) (p * stateLimit + q) (r + 1)) (now (square .entry)) ⌝ }
 {
-    if square[p * STATE_LIMIT + q] != NEVER {
+    if entry_at(square, p, q) != NEVER {
         return 0;
     }
     if leads_within(square, nexts, n, k, r, p, q) {
-        square[p * STATE_LIMIT + q] = r + 1;
+        square[p * STATE_LIMIT + q] = (r + 1) as u16;
         return 1;
     }
     0
@@ -126,11 +131,11 @@ fn refine_pair(
 
 // The round after r in row p. Counts on from `added` the pairs that are new.
 fn refine_row(
-    square: &mut [u16; 4096],
+    square: &mut [u16; SQUARE_SIZE],
     nexts: &[u8],
     n: usize,
     k: usize,
-    r: u16,
+    r: usize,
     p: usize,
     added: usize,
 ) -> usize
@@ -148,7 +153,7 @@ fn refine_row(
 }
 
 // The round after r: every pair that is not told apart within r symbols, and is within r + 1. Returns how many are new.
-fn refine_all(square: &mut [u16; 4096], nexts: &[u8], n: usize, k: usize, r: u16) -> usize
+fn refine_all(square: &mut [u16; SQUARE_SIZE], nexts: &[u8], n: usize, k: usize, r: usize) -> usize
     requires { ⌜ Rows stateLimit n k (now nexts) × (r + 1 < never) ⌝ }
     ensures { λ b. ⌜ ((ends : ℕ → ℕ → Bool) → Midway (automatonOf n k (now (nexts .entry))) ends r 0 0 (now (square .entry)) → Midway (automatonOf n k (now (nexts .entry))) ends r (n * stateLimit) b (now (square .exit))) ⌝ }
 {
@@ -161,19 +166,22 @@ fn refine_all(square: &mut [u16; 4096], nexts: &[u8], n: usize, k: usize, r: u16
     added
 }
 
-// Round by round until a round adds nothing: from a square that holds 0 for some pairs to the distances of all pairs from those.
-pub fn refine(square: &mut [u16; 4096], nexts: &[u8], n: usize, k: usize)
+// Round by round until a round adds nothing. The pairs that hold 0 are told apart at once; after it every pair holds the fewest
+// symbols that lead to such a pair, or NEVER. Returns how many rounds added a pair.
+pub fn refine(square: &mut [u16; SQUARE_SIZE], nexts: &[u8], n: usize, k: usize) -> usize
     requires { ⌜ Rows stateLimit n k (now nexts) × Fresh n (now square) ⌝ }
-    ensures { λ _. ⌜ Squared (automatonOf n k (now (nexts .entry))) (begins (now (square .entry))) (now (square .exit)) ⌝ }
+    ensures square { λ _. ⌜ Squared (automatonOf n k (now (nexts .entry))) (begins (now (square .entry))) (now (square .exit)) ⌝ }
+    ensures rounds { λ r. ⌜ Rounds (automatonOf n k (now (nexts .entry))) (begins (now (square .entry))) r ⌝ }
 {
-    let mut r: u16 = 0;
+    let mut r = 0;
     while refine_all(square, nexts, n, k, r) > 0 {
         r += 1;
     }
+    r
 }
 
 // The distance of every two states: the fewest symbols after which their outputs differ.
-pub fn distances(nexts: &[u8], n: usize, k: usize, outputs: &[u8]) -> [u16; 4096]
+pub fn distances(nexts: &[u8], n: usize, k: usize, outputs: &[u8]) -> [u16; SQUARE_SIZE]
     requires { ⌜ Rows stateLimit n k (now nexts) × (length (now outputs) ≡ n) ⌝ }
     ensures { λ r. ⌜ Squared (automatonOf n k (now (nexts .entry))) (differing (now (outputs .entry))) r ⌝ }
 {
@@ -185,7 +193,7 @@ pub fn distances(nexts: &[u8], n: usize, k: usize, outputs: &[u8]) -> [u16; 4096
 
 // The lowest symbol that leads from p and q to a pair at `distance`, or the number of symbols.
 fn nearer_by(
-    square: &[u16; 4096],
+    square: &[u16; SQUARE_SIZE],
     nexts: &[u8],
     n: usize,
     k: usize,
@@ -210,7 +218,7 @@ fn nearer_by(
 
 // Writes the first of the shortest traces that tell p and q apart into the area, from `at` on, and returns where it leads.
 pub fn write_apart(
-    square: &[u16; 4096],
+    square: &[u16; SQUARE_SIZE],
     nexts: &[u8],
     n: usize,
     k: usize,

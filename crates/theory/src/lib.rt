@@ -1,6 +1,9 @@
-// The theory has definitions and laws, and two numbers that code needs as well.
+// The theory has definitions and laws, and three numbers that code needs as well.
 
 // The greatest number of states and of symbols: `stateLimit` and `symbolLimit` in specs/Monitor.antt.
 pub const STATE_LIMIT: usize = 64;
 
 pub const SYMBOL_LIMIT: usize = 16;
+
+// The number of pairs of states.
+pub const SQUARE_SIZE: usize = STATE_LIMIT * STATE_LIMIT;

@@ -1,4 +1,6 @@
 // From what a fault costs at each state to the fewest symbols sent from each state, the fault still to come.
+use pairs::NEVER;
+use theory::STATE_LIMIT;
 ghost use mathlib.Core.Path.{_≡_};
 ghost use mathlib.Core.Bool.{cond};
 ghost use Prim.Native.Nat.{_+_, _≤_, _<_, min};
@@ -9,9 +11,6 @@ ghost use Rattle.theory.specs.Monitor.{stateLimit};
 ghost use Rattle.monitor.specs.Format.{Rows, automatonOf};
 ghost use Rattle.pairs.specs.Square.{never};
 ghost use Rattle.totals.specs.Totals.{leastAfter, lowers, Bounded, Lowering, Relaxed, onward, approach, Leading};
-
-// No series at all. What stands below it is a number of symbols.
-const NEVER: usize = 65535;
 
 // Where the symbols before a fault lead, and how many they are.
 pub struct Approach {
@@ -29,7 +28,7 @@ fn least_of(a: usize, b: usize) -> usize
 }
 
 // The least total of the states after p.
-fn least_after(totals: &[usize; 64], nexts: &[u8], n: usize, k: usize, p: usize) -> usize
+fn least_after(totals: &[usize; STATE_LIMIT], nexts: &[u8], n: usize, k: usize, p: usize) -> usize
     requires { ⌜ Rows stateLimit n k (now nexts) × (p < n) ⌝ }
     ensures { λ r. ⌜ (r ≡ leastAfter (automatonOf n k (now (nexts .entry))) (now (totals .entry)) p) × (r ≤ never) ⌝ }
 {
@@ -44,7 +43,7 @@ fn least_after(totals: &[usize; 64], nexts: &[u8], n: usize, k: usize, p: usize)
 }
 
 // Lowers the total of p to one above the least of the states after it. Returns 1 where that is lower, else 0.
-fn lower(totals: &mut [usize; 64], nexts: &[u8], n: usize, k: usize, p: usize) -> usize
+fn lower(totals: &mut [usize; STATE_LIMIT], nexts: &[u8], n: usize, k: usize, p: usize) -> usize
     requires { ⌜ Rows stateLimit n k (now nexts) × (p < n) ⌝ }
     ensures changed { λ r. ⌜ r ≡ cond (lowers (automatonOf n k (now (nexts .entry))) (now (totals .entry)) p) 1 0 ⌝ }
     ensures totals { λ _. ⌜ now (totals .exit) ≡ cond (lowers (automatonOf n k (now (nexts .entry))) (now (totals .entry)) p) (set (now (totals .entry)) p (leastAfter (automatonOf n k (now (nexts .entry))) (now (totals .entry)) p + 1)) (now (totals .entry)) ⌝ }
@@ -58,7 +57,7 @@ fn lower(totals: &mut [usize; 64], nexts: &[u8], n: usize, k: usize, p: usize) -
 }
 
 // Lowers every total once. Returns how many are lower.
-fn lower_all(totals: &mut [usize; 64], nexts: &[u8], n: usize, k: usize) -> usize
+fn lower_all(totals: &mut [usize; STATE_LIMIT], nexts: &[u8], n: usize, k: usize) -> usize
     requires { ⌜ Rows stateLimit n k (now nexts) × Bounded n (now totals) ⌝ }
     ensures { λ r. ⌜ Lowering (automatonOf n k (now (nexts .entry))) n r (now (totals .entry)) (now (totals .exit)) ⌝ }
 {
@@ -72,7 +71,7 @@ fn lower_all(totals: &mut [usize; 64], nexts: &[u8], n: usize, k: usize) -> usiz
 }
 
 // Lowers totals until none is lower: they begin as the costs of the states.
-pub fn relax(totals: &mut [usize; 64], nexts: &[u8], n: usize, k: usize)
+pub fn relax(totals: &mut [usize; STATE_LIMIT], nexts: &[u8], n: usize, k: usize)
     requires { ⌜ Rows stateLimit n k (now nexts) × Bounded n (now totals) ⌝ }
     ensures { λ _. ⌜ Relaxed (automatonOf n k (now (nexts .entry))) (now (totals .entry)) (now (totals .exit)) ⌝ }
 {
@@ -81,7 +80,7 @@ pub fn relax(totals: &mut [usize; 64], nexts: &[u8], n: usize, k: usize)
 
 // The lowest symbol from p to a state with this total, or the number of symbols.
 fn onward_by(
-    totals: &[usize; 64],
+    totals: &[usize; STATE_LIMIT],
     nexts: &[u8],
     n: usize,
     k: usize,
@@ -104,8 +103,8 @@ fn onward_by(
 
 // Writes the symbols before the fault into the area, and returns where they lead.
 pub fn write_before(
-    totals: &[usize; 64],
-    costs: &[usize; 64],
+    totals: &[usize; STATE_LIMIT],
+    costs: &[usize; STATE_LIMIT],
     nexts: &[u8],
     n: usize,
     k: usize,

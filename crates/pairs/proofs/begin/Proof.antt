@@ -17,7 +17,7 @@ abbrev μ-loop : tie.MeasureT-loop
 μ-loop square₀ outputs p₀ square p = length outputs - p
 
 loop-holds : tie.Need-loop-holds Inv-loop μ-loop
-loop-holds c = (search needs, begun-none (c .before .pre .1))
+loop-holds c = (search needs, begun-none (c .before .pre .0) (c .before .pre .1))
 
 begin-row-requires : tie.Need-begin-row-requires Inv-loop μ-loop
 begin-row-requires c κs = search needs

@@ -18,26 +18,8 @@ abbrev μ-loop : tie.MeasureT-loop
 loop-holds : tie.Need-loop-holds Inv-loop μ-loop
 loop-holds c = (search needs, rw (add-zero _) (c .before .pre .2))
 
-shared-slice-read-begun-with : tie.Need-shared-slice-read-begun-with Inv-loop μ-loop
-shared-slice-read-begun-with c = search needs
-
-shared-slice-read-begun-with-2 : tie.Need-shared-slice-read-begun-with-2 Inv-loop μ-loop
-shared-slice-read-begun-with-2 c = search needs
-
-begun-with-requires : tie.Need-begun-with-requires Inv-loop μ-loop
-begun-with-requires c κs = search needs
-
-mul-square : tie.Need-mul-square Inv-loop μ-loop
-mul-square c = search needs
-
-add-square : tie.Need-add-square Inv-loop μ-loop
-add-square c = search needs
-
-mul-square-2 : tie.Need-mul-square-2 Inv-loop μ-loop
-mul-square-2 c = search needs
-
-element-write-square : tie.Need-element-write-square Inv-loop μ-loop
-element-write-square c = search needs
+begin-pair-requires : tie.Need-begin-pair-requires Inv-loop μ-loop
+begin-pair-requires c κs = search needs
 
 add-q : tie.Need-add-q Inv-loop μ-loop
 add-q c = search needs
@@ -47,17 +29,17 @@ loop-less c = search needs
 
 loop-again : tie.Need-loop-again Inv-loop μ-loop
 loop-again c =
-    let s = c .before .before .before .before .before .before in
-    let at = c .before .before .before .before .loop in
-    (search needs, begun-turn (s .pre .0) (s .args .p) (at .q) (s .pre .1) (c .before .before .before .loop-test .taken) (at .inv .1) (c .begun-with .ensures))
+    let s = c .before .before .before .before .before in
+    let at = c .before .before .before .loop in
+    (search needs, begun-turn (s .pre .0) (s .args .p) (at .q) (s .pre .1) (c .before .before .loop-test .taken) (at .inv .1) (c .begin-pair .ensures))
 
 returns : tie.Need-returns Inv-loop μ-loop
 returns c =
     let s = c .before .before .before in
     let at = c .before .loop in
-    begun-row (s .pre .0) (s .args .p) (at .q) (at .inv .1) (c .loop-test .left)
+    begun-row (s .pre .0) (s .args .p) (at .q) (at .inv .1) (at .inv .0) (c .loop-test .left)
 
 pub begin-row-spec : {M : Type 1} → statement M
 begin-row-spec =
     tie.close
-    (tie.spec Inv-loop μ-loop loop-holds shared-slice-read-begun-with shared-slice-read-begun-with-2 begun-with-requires mul-square add-square mul-square-2 element-write-square add-q loop-less loop-again returns)
+    (tie.spec Inv-loop μ-loop loop-holds begin-pair-requires add-q loop-less loop-again returns)

@@ -21,7 +21,7 @@ refine-requires c κs =
 returns : tie.Need-returns
 returns c =
     let pre = c .before .before .before .before .before .before .before .pre in
-    squared-same (next-of-rows (pre .0)) (begins-differing (omega (arith, pre .0 .states-most, pre .1)) (pre .1) (c .before .before .begin .ensures)) (c .refine .ensures)
+    squared-same (next-of-rows (pre .0)) (begins-differing (omega (arith, pre .0 .states-most, pre .1)) (pre .1) (c .before .before .begin .ensures)) (c .refine .ensures .0)
 
 pub distances-spec : {M : Type 1} → statement M
 distances-spec = tie.close (tie.spec blank-requires begin-requires refine-requires returns)

@@ -1,22 +1,24 @@
 -- `refine` meets its contract: before each round the square is that of r rounds, and a round that adds something is one of the first n * n.
-use Prim.Native.Nat.{_*_, _-_, _≤_}
+use Prim.Native.Nat.{ℕ, _*_, _-_, _≤_, _<_}
 use native.Mathlib.Omega.{arith}
 use borrow.Author.Needs.{needs}
 use Rattle.monitor.specs.Format.{automatonOf}
 use Rattle.monitor.proofs.Rows.{next-of-rows}
-use Rattle.pairs.specs.Square.{begins, Midway}
-use Rattle.pairs.proofs.Rounds.{midway-first, midway-next, added-early, squared, few-rounds}
+use Rattle.pairs.specs.Square.{New, begins, Midway}
+use Rattle.pairs.proofs.Rounds.{midway-first, midway-next, added-early, rounds-more, squared, rounds-end, few-rounds}
 use Rattle.pairs.proofs.refine.Statement.{statement}
 use Rattle.pairs.proofs.refine.Tie as tie
 
 abbrev Inv-loop : tie.InvT-loop
-Inv-loop square₀ nexts n k r₀ square r = (r ≤ n * n) × Midway (automatonOf n k nexts) (begins square₀) r 0 0 square
+Inv-loop square₀ nexts n k r₀ square r =
+    (r ≤ n * n) × Midway (automatonOf n k nexts) (begins square₀) r 0 0 square
+    × ((s : ℕ) → s < r → New (automatonOf n k nexts) (begins square₀) s)
 
 abbrev μ-loop : tie.MeasureT-loop
 μ-loop square₀ nexts n k r₀ square r = n * n - r
 
 loop-holds : tie.Need-loop-holds Inv-loop μ-loop
-loop-holds c = (search needs, midway-first (c .before .pre .1))
+loop-holds c = (search needs, midway-first (c .before .pre .1), λ s l. absurd (omega arith))
 
 refine-all-requires : tie.Need-refine-all-requires Inv-loop μ-loop
 refine-all-requires c κs =
@@ -37,15 +39,20 @@ loop-again : tie.Need-loop-again Inv-loop μ-loop
 loop-again c =
     let rows = c .before .before .before .before .before .pre .0 in
     let at = c .before .before .before .loop in
-    let w = c .before .refine-all .ensures (begins (c .before .before .before .before .before .args .square .now)) (at .inv .1) in
-    (omega (arith, added-early (next-of-rows rows) (rows .states-most) w (c .if1 .taken)), midway-next (next-of-rows rows) (rows .states-most) w)
+    let w = c .before .refine-all .ensures (begins (c .before .before .before .before .before .args .square .now)) (at .inv .1) in (
+      omega (arith, added-early (next-of-rows rows) (rows .states-most) w (c .if1 .taken)),
+      midway-next (next-of-rows rows) (rows .states-most) w,
+      rounds-more (next-of-rows rows) (rows .states-most) w (c .if1 .taken) (at .inv .2),
+    )
 
 returns : tie.Need-returns Inv-loop μ-loop
 returns c =
     let rows = c .before .before .before .before .before .pre .0 in
     let at = c .before .before .before .loop in
-    let w = c .before .refine-all .ensures (begins (c .before .before .before .before .before .args .square .now)) (at .inv .1) in
-    squared (next-of-rows rows) (rows .states-most) w (omega (arith, at .inv .0, few-rounds (rows .states-most))) (c .if1 .left)
+    let w = c .before .refine-all .ensures (begins (c .before .before .before .before .before .args .square .now)) (at .inv .1) in (
+      squared (next-of-rows rows) (rows .states-most) w (omega (arith, at .inv .0, few-rounds (rows .states-most))) (c .if1 .left),
+      rounds-end (next-of-rows rows) (rows .states-most) w (c .if1 .left) (at .inv .2),
+    )
 
 pub refine-spec : {M : Type 1} → statement M
 refine-spec =

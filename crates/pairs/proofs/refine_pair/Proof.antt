@@ -4,26 +4,23 @@ use borrow.Author.Tests.{eq-eqb, ne-eqb}
 use Rattle.pairs.proofs.refine_pair.Statement.{statement}
 use Rattle.pairs.proofs.refine_pair.Tie as tie
 
-mul-if1 : tie.Need-mul-if1
-mul-if1 c = search needs
-
-add-if1 : tie.Need-add-if1
-add-if1 c = search needs
-
-mul-if1-2 : tie.Need-mul-if1-2
-mul-if1-2 c = search needs
-
-element-copy-out-if1 : tie.Need-element-copy-out-if1
-element-copy-out-if1 c = search needs
+entry-at-requires : tie.Need-entry-at-requires
+entry-at-requires c κs = search needs
 
 returns : tie.Need-returns
-returns c = (let e = ne-eqb _ _ (c .if1 .taken) in (rw e, rw e))
+returns c =
+    let h = c .before .entry-at .ensures .0 in
+    let e = ne-eqb _ _ (c .if1 .taken) in
+    (rw (← h, e), rw (← h, e))
 
 leads-within-requires : tie.Need-leads-within-requires
 leads-within-requires c κs = search needs
 
 add-square : tie.Need-add-square
 add-square c = search needs
+
+cast-square : tie.Need-cast-square
+cast-square c = search needs
 
 mul-square : tie.Need-mul-square
 mul-square c = search needs
@@ -39,17 +36,19 @@ element-write-square c = search needs
 
 returns-2 : tie.Need-returns-2
 returns-2 c =
+    let h = c .before .before .before .before .entry-at .ensures .0 in
     let e = eq-eqb _ _ (c .before .before .before .if1 .left) in
     let l = c .before .leads-within .ensures in
-    (rw (e, ← l, c .if2 .taken), rw (e, ← l, c .if2 .taken))
+    (rw (← h, e, ← l, c .if2 .taken), rw (← h, e, ← l, c .if2 .taken))
 
 returns-3 : tie.Need-returns-3
 returns-3 c =
+    let h = c .before .before .before .before .entry-at .ensures .0 in
     let e = eq-eqb _ _ (c .before .before .before .if1 .left) in
     let l = c .before .leads-within .ensures in
-    (rw (e, ← l, c .if2 .left), rw (e, ← l, c .if2 .left))
+    (rw (← h, e, ← l, c .if2 .left), rw (← h, e, ← l, c .if2 .left))
 
 pub refine-pair-spec : {M : Type 1} → statement M
 refine-pair-spec =
     tie.close
-    (tie.spec mul-if1 add-if1 mul-if1-2 element-copy-out-if1 returns leads-within-requires add-square mul-square add-square-2 mul-square-2 element-write-square returns-2 returns-3)
+    (tie.spec entry-at-requires returns leads-within-requires add-square cast-square mul-square add-square-2 mul-square-2 element-write-square returns-2 returns-3)
