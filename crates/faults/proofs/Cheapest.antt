@@ -55,12 +55,12 @@ module _ {g : Automaton} {d : List ℕ} {p : ℕ} where
     ranged = λ l. absurd (omega arith);
   }
 
-  pub best-one : (c : Choice) → c .cost ≡ costOf g d p (stepFor (c .fault)) → Ranged (g .symbols) (c .fault) → Best g d p (stepFor (c .fault) ∷ []) c
+  pub best-one : (c : Choice) (s : FaultStep) → stepFor (c .fault) ≡ s → c .cost ≡ costOf g d p (stepFor (c .fault)) → Ranged (g .symbols) (c .fault) → Best g d p (s ∷ []) c
   unfolding find
-  best-one c e r = record {
+  best-one c s is e r = record {
     most = omega (arith, e, plus-most (length (stepFor (c .fault) .sent)) (entry d (run g p (stepFor (c .fault) .sent)) (run g p (stepFor (c .fault) .received))));
-    least = λ s i. ⊎-elim (λ (q : s ≡ stepFor (c .fault)). le-of-eq (e ∙ ap (costOf g d p) (sym q))) (λ j. absurd j) i;
-    first = λ l. rw (eq-eqb (costOf g d p (stepFor (c .fault))) (c .cost) (sym e));
+    least = λ t i. ⊎-elim (λ (q : t ≡ s). le-of-eq (e ∙ ap (costOf g d p) (is ∙ sym q))) (λ j. absurd j) i;
+    first = λ l. rw (eq-eqb (costOf g d p s) (c .cost) (sym (e ∙ ap (costOf g d p) is)), is);
     ranged = λ l. r;
   }
 

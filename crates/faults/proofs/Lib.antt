@@ -1,2 +1,3 @@
+pub mod AtMostTwo
 pub mod ByKind
 pub mod Cheapest

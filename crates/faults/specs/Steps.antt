@@ -5,34 +5,34 @@ use mathlib.Core.List.{List, [], _∷_}
 use mathlib.Core.Option.{some}
 use Prim.Native.Nat.{ℕ, _+_, _≤_, _<_}
 use lib.Dec.{eqb, ltb}
-use lib.ListN.{length, getD}
-use Rattle.theory.specs.Lists.{In, find, each}
+use lib.ListN.{length, getD, take}
+use Rattle.theory.specs.Lists.{In, find}
 use Rattle.theory.specs.Automaton.{Automaton, run}
 use Rattle.theory.specs.Monitor.{stateLimit}
-use Rattle.theory.specs.Faults.{FaultStep, kinds, stepOf, seconds, holds, stepsOfKind}
+use Rattle.theory.specs.Faults.{FaultStep}
 use Rattle.pairs.specs.Square.{never, entry}
+use Rattle.faults.specs.declared.Symbols.{Symbols}
 use Rattle.faults.specs.declared.Fault.{Fault}
 use Rattle.faults.specs.declared.Choice.{Choice}
 
+-- the symbols as a trace
+abbrev pub symbolsOf : Symbols → List ℕ
+symbolsOf s = take (s .count) (s .first ∷ s .second ∷ [])
+
 -- the fault step that a fault stands for
 abbrev pub stepFor : Fault → FaultStep
-stepFor f = stepOf (f .kind) (f .first) (f .second)
+stepFor f = record { kind = f .bit; sent = symbolsOf (f .sent); received = symbolsOf (f .received); replacement = f .replacement }
 
--- the parts of the list `steps`: a kind's step with two symbols, its steps with one first symbol, its steps where the set has it
-abbrev pub stepWith : ℕ → ℕ → ℕ → List FaultStep
-stepWith kind a b = stepOf kind a b ∷ []
+-- at most two symbols, each below k
+pub record Inside (k : ℕ) (s : Symbols) : Type 0 where
+  pub count-most : s .count ≤ 2
+  pub first-in : s .first < k
+  pub second-in : s .second < k
 
-abbrev pub stepsFrom : ℕ → ℕ → ℕ → List FaultStep
-stepsFrom k kind a = each (seconds kind k) (stepWith kind a)
-
-abbrev pub stepsIfHeld : ℕ → ℕ → ℕ → List FaultStep
-stepsIfHeld set k kind = cond (holds set kind) (stepsOfKind k kind) []
-
--- a fault on k symbols
+-- a fault whose symbols are below k
 pub record Ranged (k : ℕ) (f : Fault) : Type 0 where
-  pub kind-in : f .kind < kinds
-  pub first-in : f .first < k
-  pub second-in : f .second < k
+  pub sent-in : Inside k (f .sent)
+  pub received-in : Inside k (f .received)
 
 -- l symbols and then as many as e notes; never where e is, and where the sum would reach it
 abbrev pub plus : ℕ → ℕ → ℕ

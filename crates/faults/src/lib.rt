@@ -1,25 +1,27 @@
 // Fault sets, fault steps, and the cheapest fault step at a state.
+use pairs::NEVER;
+use theory::SQUARE_SIZE;
+use theory::STATE_LIMIT;
 ghost use mathlib.Core.Path.{_≡_};
 ghost use mathlib.Core.Bool.{cond};
-ghost use Prim.Native.Nat.{_+_, _≤_, _<_};
+ghost use mathlib.Core.List.{[], _∷_};
+ghost use Prim.Native.Nat.{ℕ, _+_, _≤_, _<_};
 ghost use lib.ListN.{length};
 ghost use lib.Seq.{sets};
 ghost use lib.Dec.{ltb};
 ghost use lib.Bits.{bitOr};
+ghost use Rattle.theory.specs.Lists.{each};
 ghost use Rattle.theory.specs.Automaton.{run};
-ghost use Rattle.theory.specs.Monitor.{stateLimit};
-ghost use Rattle.theory.specs.Faults.{kinds, seconds, holds, stepsOfKind, steps};
+ghost use Rattle.theory.specs.Monitor.{stateLimit, symbolLimit};
+ghost use Rattle.theory.specs.Faults.{kinds, stepOf, seconds, holds, stepsOfKind, steps};
 ghost use Rattle.monitor.specs.Format.{Rows, automatonOf};
 ghost use Rattle.pairs.specs.Square.{never};
-ghost use Rattle.faults.specs.Steps.{stepFor, stepsFrom, stepsIfHeld, Ranged, costOf, Best, Costs};
-
-// No series at all. What stands below it is a number of symbols.
-pub const NEVER: usize = 65535;
+ghost use Rattle.faults.specs.Steps.{symbolsOf, stepFor, Inside, Ranged, costOf, Best, Costs};
 
 // How many kinds of fault there are.
 const KINDS: usize = 4;
 
-// A set of faults: the sum of their bits. A set with a bit that is no fault's is refused where it is asked about.
+// A set of faults: the sum of their bits. The fault question takes the number, so that question 9 refuses a set with a bit of no fault.
 pub struct FaultSet {
     pub bits: usize,
 }
@@ -41,20 +43,40 @@ impl FaultSet {
         Self { bits: 0 }
     }
 
-    // The set with these faults in it too.
-    pub fn with(mut self, faults: usize) -> Self
-        ensures { λ r. ⌜ r .bits ≡ bitOr (self .bits) faults ⌝ }
+    // The set with this kind in it too. It is one of the four constants, or any union of them.
+    pub fn with(mut self, kind: usize) -> Self
+        ensures { λ r. ⌜ r .bits ≡ bitOr (self .bits) kind ⌝ }
     {
-        self.bits = self.bits | faults;
+        self.bits = self.bits | kind;
         self
     }
 }
 
-// A fault step: the kind by its place in the written order, the first symbol covered, and the replacement or the second symbol covered (else 0).
-pub struct Fault {
-    pub kind: usize,
+// At most two symbols, one after the other. What stands behind the count is not looked at.
+pub struct Symbols {
+    pub count: usize,
     pub first: usize,
     pub second: usize,
+}
+
+impl Symbols {
+    fn new(count: usize, first: usize, second: usize) -> Self
+        ensures { λ r. ⌜ r ≡ record { count = count; first = first; second = second } ⌝ }
+    {
+        Self {
+            count,
+            first,
+            second,
+        }
+    }
+}
+
+// A fault step: its fixed bit, the symbols it covers, the symbols delivered in their place, and the replacement (0 except for corruption).
+pub struct Fault {
+    pub bit: usize,
+    pub sent: Symbols,
+    pub received: Symbols,
+    pub replacement: usize,
 }
 
 // A fault step, and the fewest symbols sent by a harmful series that begins with it.
@@ -63,19 +85,19 @@ pub struct Choice {
     pub fault: Fault,
 }
 
-// Whether the set has the kind.
-fn has_kind(set: usize, kind: usize) -> bool
-    requires { ⌜ kind < kinds ⌝ }
-    ensures { λ r. ⌜ r ≡ holds set kind ⌝ }
+// Whether the set has the kind of this rank.
+fn has_kind(set: usize, rank: usize) -> bool
+    requires { ⌜ rank < kinds ⌝ }
+    ensures { λ r. ⌜ r ≡ holds set rank ⌝ }
 {
-    (set >> kind) & 1 == 1
+    (set >> rank) & 1 == 1
 }
 
-// How many second symbols a kind goes through.
-fn seconds_of(kind: usize, k: usize) -> usize
-    ensures { λ r. ⌜ r ≡ seconds kind k ⌝ }
+// How many replacements or neighbours a kind goes through.
+fn seconds_of(rank: usize, k: usize) -> usize
+    ensures { λ r. ⌜ r ≡ seconds rank k ⌝ }
 {
-    match kind {
+    match rank {
         0 => 1,
         1 => k,
         2 => 1,
@@ -83,93 +105,86 @@ fn seconds_of(kind: usize, k: usize) -> usize
     }
 }
 
-// How many symbols the fault covers.
-pub fn covered(fault: Fault) -> usize
-    ensures { λ r. ⌜ (r ≡ length (stepFor fault .sent)) × (r ≤ 2) ⌝ }
+// The fault step of a kind, by its rank in the written order, at symbol a; b is the replacement or the neighbour.
+// Only this function and `seconds_of` tell one kind from another.
+fn fault_of(rank: usize, a: usize, b: usize) -> Fault
+    requires { ⌜ rank < kinds ⌝ }
+    ensures step { λ r. ⌜ stepFor r ≡ stepOf rank a b ⌝ }
+    ensures ranged { λ r. ⌜ ((k : ℕ) → a < k → b < k → Ranged k r) ⌝ }
 {
-    if fault.kind < 3 {
-        return 1;
+    match rank {
+        0 => Fault {
+            bit: FaultSet::LOSS,
+            sent: Symbols::new(1, a, 0),
+            received: Symbols::new(0, 0, 0),
+            replacement: 0,
+        },
+        1 => Fault {
+            bit: FaultSet::CORRUPTION,
+            sent: Symbols::new(1, a, 0),
+            received: Symbols::new(1, b, 0),
+            replacement: b,
+        },
+        2 => Fault {
+            bit: FaultSet::REPEAT,
+            sent: Symbols::new(1, a, 0),
+            received: Symbols::new(2, a, a),
+            replacement: 0,
+        },
+        _ => Fault {
+            bit: FaultSet::SWAP,
+            sent: Symbols::new(2, a, b),
+            received: Symbols::new(2, b, a),
+            replacement: 0,
+        },
     }
-    2
 }
 
-// The fixed bit of the fault.
-pub fn bit_of(fault: Fault) -> usize
-    requires { ⌜ fault .kind < kinds ⌝ }
-    ensures { λ r. ⌜ r ≡ stepFor fault .kind ⌝ }
+// The state after at most two symbols.
+pub fn after(nexts: &[u8], n: usize, k: usize, p: usize, symbols: Symbols) -> usize
+    requires { ⌜ Rows stateLimit n k (now nexts) × (p < n) × Inside k symbols ⌝ }
+    ensures { λ r. ⌜ (r ≡ run (automatonOf n k (now (nexts .entry))) p (symbolsOf symbols)) × (r < n) ⌝ }
 {
-    let kind = fault.kind;
-    match kind {
-        0 => FaultSet::LOSS,
-        1 => FaultSet::CORRUPTION,
-        2 => FaultSet::REPEAT,
-        _ => FaultSet::SWAP,
+    if symbols.count == 0 {
+        return p;
     }
-}
-
-// The replacement, 0 except for corruption.
-pub fn replacement_of(fault: Fault) -> usize
-    ensures { λ r. ⌜ r ≡ stepFor fault .replacement ⌝ }
-{
-    let kind = fault.kind;
-    match kind {
-        1 => fault.second,
-        _ => 0,
-    }
-}
-
-// The state after what is sent.
-pub fn after_sent(nexts: &[u8], n: usize, k: usize, p: usize, fault: Fault) -> usize
-    requires { ⌜ Rows stateLimit n k (now nexts) × (p < n) × Ranged k fault ⌝ }
-    ensures { λ r. ⌜ (r ≡ run (automatonOf n k (now (nexts .entry))) p (stepFor fault .sent)) × (r < n) ⌝ }
-{
-    let x = monitor::successor(nexts, n, k, p, fault.first);
-    if fault.kind < 3 {
+    let x = monitor::successor(nexts, n, k, p, symbols.first);
+    if symbols.count == 1 {
         return x;
     }
-    monitor::successor(nexts, n, k, x, fault.second)
+    monitor::successor(nexts, n, k, x, symbols.second)
 }
 
-// The state after what is received.
-pub fn after_received(nexts: &[u8], n: usize, k: usize, p: usize, fault: Fault) -> usize
-    requires { ⌜ Rows stateLimit n k (now nexts) × (p < n) × Ranged k fault ⌝ }
-    ensures { λ r. ⌜ (r ≡ run (automatonOf n k (now (nexts .entry))) p (stepFor fault .received)) × (r < n) ⌝ }
+// Writes the symbols into the area, from `at` on.
+pub fn write_symbols(symbols: Symbols, area: &mut [u8], at: usize)
+    requires { ⌜ (at + length (symbolsOf symbols) ≤ length (now area)) × Inside symbolLimit symbols ⌝ }
+    ensures { λ _. ⌜ now (area .exit) ≡ sets (now (area .entry)) at (symbolsOf symbols) ⌝ }
 {
-    let kind = fault.kind;
-    match kind {
-        0 => p,
-        1 => monitor::successor(nexts, n, k, p, fault.second),
-        2 => {
-            let x = monitor::successor(nexts, n, k, p, fault.first);
-            monitor::successor(nexts, n, k, x, fault.first)
-        }
-        _ => {
-            let x = monitor::successor(nexts, n, k, p, fault.second);
-            monitor::successor(nexts, n, k, x, fault.first)
-        }
-    }
-}
-
-// Writes what is sent into the area, from `at` on.
-pub fn write_sent(fault: Fault, area: &mut [u8], at: usize)
-    requires { ⌜ (at + length (stepFor fault .sent) ≤ length (now area)) × Ranged 16 fault ⌝ }
-    ensures { λ _. ⌜ now (area .exit) ≡ sets (now (area .entry)) at (stepFor fault .sent) ⌝ }
-{
-    area[at] = fault.first as u8;
-    if fault.kind < 3 {
+    if symbols.count == 0 {
         return;
     }
-    area[at + 1] = fault.second as u8;
+    area[at] = symbols.first as u8;
+    if symbols.count == 1 {
+        return;
+    }
+    area[at + 1] = symbols.second as u8;
 }
 
-// The cost of a fault at p: NEVER where the sum would reach it.
-fn cost_of(square: &[u16; 4096], nexts: &[u8], n: usize, k: usize, p: usize, fault: Fault) -> usize
+// The cost of a fault at p, and NEVER where the sum would reach that.
+fn cost_of(
+    square: &[u16; SQUARE_SIZE],
+    nexts: &[u8],
+    n: usize,
+    k: usize,
+    p: usize,
+    fault: Fault,
+) -> usize
     requires { ⌜ Rows stateLimit n k (now nexts) × (p < n) × Ranged k fault ⌝ }
     ensures { λ r. ⌜ r ≡ costOf (automatonOf n k (now (nexts .entry))) (now (square .entry)) p (stepFor fault) ⌝ }
 {
-    let x = after_sent(nexts, n, k, p, fault);
-    let y = after_received(nexts, n, k, p, fault);
-    let cost = covered(fault) + pairs::entry_at(square, x, y);
+    let x = after(nexts, n, k, p, fault.sent);
+    let y = after(nexts, n, k, p, fault.received);
+    let cost = fault.sent.count + pairs::entry_at(square, x, y);
     if cost < NEVER {
         return cost;
     }
@@ -186,42 +201,32 @@ fn cheaper(a: Choice, b: Choice) -> Choice
     a
 }
 
-// No choice.
+// The choice where there is no fault step: it costs NEVER, and its fault is not looked at.
 fn no_choice() -> Choice
     ensures { λ r. ⌜ r .cost ≡ never ⌝ }
 {
-    Choice {
-        cost: NEVER,
-        fault: Fault {
-            kind: 0,
-            first: 0,
-            second: 0,
-        },
-    }
+    let fault = fault_of(0, 0, 0);
+    Choice { cost: NEVER, fault }
 }
 
-// The cheapest fault of a kind at p with one first symbol.
+// The cheapest fault of a kind at p with the given first symbol.
 fn best_second(
-    square: &[u16; 4096],
+    square: &[u16; SQUARE_SIZE],
     nexts: &[u8],
     n: usize,
     k: usize,
     p: usize,
-    kind: usize,
+    rank: usize,
     first: usize,
 ) -> Choice
-    requires { ⌜ Rows stateLimit n k (now nexts) × (p < n) × (kind < kinds) × (first < k) ⌝ }
-    ensures { λ r. ⌜ Best (automatonOf n k (now (nexts .entry))) (now (square .entry)) p (stepsFrom k kind first) r ⌝ }
+    requires { ⌜ Rows stateLimit n k (now nexts) × (p < n) × (rank < kinds) × (first < k) ⌝ }
+    ensures { λ r. ⌜ Best (automatonOf n k (now (nexts .entry))) (now (square .entry)) p (each (seconds rank k) (λ b. stepOf rank first b ∷ [])) r ⌝ }
 {
-    let count = seconds_of(kind, k);
+    let count = seconds_of(rank, k);
     let mut best = no_choice();
     let mut second = 0;
     while second < count {
-        let fault = Fault {
-            kind,
-            first,
-            second,
-        };
+        let fault = fault_of(rank, first, second);
         let cost = cost_of(square, nexts, n, k, p, fault);
         best = cheaper(best, Choice { cost, fault });
         second += 1;
@@ -231,64 +236,77 @@ fn best_second(
 
 // The cheapest fault of a kind at p.
 fn best_of_kind(
-    square: &[u16; 4096],
+    square: &[u16; SQUARE_SIZE],
     nexts: &[u8],
     n: usize,
     k: usize,
     p: usize,
-    kind: usize,
+    rank: usize,
 ) -> Choice
-    requires { ⌜ Rows stateLimit n k (now nexts) × (p < n) × (kind < kinds) ⌝ }
-    ensures { λ r. ⌜ Best (automatonOf n k (now (nexts .entry))) (now (square .entry)) p (stepsOfKind k kind) r ⌝ }
+    requires { ⌜ Rows stateLimit n k (now nexts) × (p < n) × (rank < kinds) ⌝ }
+    ensures { λ r. ⌜ Best (automatonOf n k (now (nexts .entry))) (now (square .entry)) p (stepsOfKind k rank) r ⌝ }
 {
     let mut best = no_choice();
     let mut first = 0;
     while first < k {
-        best = cheaper(best, best_second(square, nexts, n, k, p, kind, first));
+        best = cheaper(best, best_second(square, nexts, n, k, p, rank, first));
         first += 1;
     }
     best
 }
 
-// The same where the set has the kind.
+// The same where the set has the kind, else no choice.
 fn best_if_held(
-    square: &[u16; 4096],
+    square: &[u16; SQUARE_SIZE],
     nexts: &[u8],
     n: usize,
     k: usize,
     set: usize,
     p: usize,
-    kind: usize,
+    rank: usize,
 ) -> Choice
-    requires { ⌜ Rows stateLimit n k (now nexts) × (p < n) × (kind < kinds) ⌝ }
-    ensures { λ r. ⌜ Best (automatonOf n k (now (nexts .entry))) (now (square .entry)) p (stepsIfHeld set k kind) r ⌝ }
+    requires { ⌜ Rows stateLimit n k (now nexts) × (p < n) × (rank < kinds) ⌝ }
+    ensures { λ r. ⌜ Best (automatonOf n k (now (nexts .entry))) (now (square .entry)) p (cond (holds set rank) (stepsOfKind k rank) []) r ⌝ }
 {
-    if has_kind(set, kind) {
-        return best_of_kind(square, nexts, n, k, p, kind);
+    if has_kind(set, rank) {
+        return best_of_kind(square, nexts, n, k, p, rank);
     }
     no_choice()
 }
 
 // The cheapest fault of the set at p, the first in the written order.
-pub fn best(square: &[u16; 4096], nexts: &[u8], n: usize, k: usize, set: usize, p: usize) -> Choice
+pub fn best(
+    square: &[u16; SQUARE_SIZE],
+    nexts: &[u8],
+    n: usize,
+    k: usize,
+    set: usize,
+    p: usize,
+) -> Choice
     requires { ⌜ Rows stateLimit n k (now nexts) × (p < n) ⌝ }
     ensures { λ r. ⌜ Best (automatonOf n k (now (nexts .entry))) (now (square .entry)) p (steps set k) r ⌝ }
 {
     let mut best = no_choice();
-    let mut kind = 0;
-    while kind < KINDS {
-        best = cheaper(best, best_if_held(square, nexts, n, k, set, p, kind));
-        kind += 1;
+    let mut rank = 0;
+    while rank < KINDS {
+        best = cheaper(best, best_if_held(square, nexts, n, k, set, p, rank));
+        rank += 1;
     }
     best
 }
 
 // What the cheapest fault of the set costs at every state.
-pub fn costs(square: &[u16; 4096], nexts: &[u8], n: usize, k: usize, set: usize) -> [usize; 64]
+pub fn costs(
+    square: &[u16; SQUARE_SIZE],
+    nexts: &[u8],
+    n: usize,
+    k: usize,
+    set: usize,
+) -> [usize; STATE_LIMIT]
     requires { ⌜ Rows stateLimit n k (now nexts) ⌝ }
     ensures { λ r. ⌜ Costs (automatonOf n k (now (nexts .entry))) (now (square .entry)) (steps set k) n r ⌝ }
 {
-    let mut costs = [NEVER; 64];
+    let mut costs = [NEVER; STATE_LIMIT];
     let mut p = 0;
     while p < n {
         let choice = best(square, nexts, n, k, set, p);

@@ -23,9 +23,10 @@ use Rattle.monitor.specs.Format.{Rows, automatonOf}
 use Rattle.monitor.proofs.Rows.{next-of-rows}
 use Rattle.pairs.specs.Square.{never, entry, Squared, path}
 use Rattle.pairs.proofs.Path.{path-length}
-use Rattle.faults.specs.declared.Fault.{Fault}
+use Rattle.faults.specs.declared.Symbols.{Symbols}
 use Rattle.faults.specs.declared.Choice.{Choice}
-use Rattle.faults.specs.Steps.{stepFor, Ranged, costOf, Best, Costs}
+use Rattle.faults.specs.Steps.{stepFor, Inside, Ranged, costOf, Best, Costs}
+use Rattle.faults.proofs.AtMostTwo.{count-is}
 use Rattle.totals.specs.Totals.{Relaxed, approach}
 use Rattle.immunity.specs.Findings.{seriesFigures}
 use Rattle.immunity.proofs.Search.{search-finds, cost-sum}
@@ -34,8 +35,8 @@ pub sets-append : (l : List ℕ) (i : ℕ) (xs ys : List ℕ) → sets (sets l i
 sets-append l i [] ys = ap (λ (j : ℕ). sets l j ys) (add-zero i)
 sets-append l i (x ∷ xs) ys = ap (λ (j : ℕ). sets (sets (set l i x) (suc i) xs) j ys) (add-suc i (length xs) ∙ sym (suc-add i (length xs))) ∙ sets-append (set l i x) (suc i) xs ys
 
-pub ranged-wider : {k m : ℕ} {f : Fault} → Ranged k f → k ≤ m → Ranged m f
-ranged-wider r l = record { kind-in = r .kind-in; first-in = omega (arith, r .first-in); second-in = omega (arith, r .second-in) }
+pub inside-wider : {k m : ℕ} {s : Symbols} → Inside k s → k ≤ m → Inside m s
+inside-wider i l = record { count-most = i .count-most; first-in = omega (arith, i .first-in); second-in = omega (arith, i .second-in) }
 
 -- the best choice at a state costs what the state costs
 pub best-cost : {g : Automaton} {d costs : List ℕ} {faults : List FaultStep} {n q : ℕ} {c : Choice} → Costs g d faults n costs → q < n → Best g d q faults c → c .cost ≡ getD costs q 0
@@ -101,6 +102,10 @@ module _ {g : Automaton} {ends : ℕ → ℕ → Bool} {set : ℕ} {d costs v : 
   pub made-ranged : Ranged (g .symbols) (c .fault)
   made-ranged = k .best .ranged cheap
 
+  -- how many symbols the fault covers
+  covers : c .fault .sent .count ≡ length (step .sent)
+  covers = count-is (c .fault .sent) (made-ranged .sent-in .count-most)
+
   picked : find (λ s. eqb (costOf g d state s) (getD costs state 0)) (steps set (g .symbols)) ≡ some step
   picked = subst (λ (x : ℕ). find (λ s. eqb (costOf g d state s) x) (steps set (g .symbols)) ≡ some step) (best-cost (h .costs-are) (k .state-in) (k .best)) (k .best .first cheap)
 
@@ -116,16 +121,19 @@ module _ {g : Automaton} {ends : ℕ → ℕ → Bool} {set : ℕ} {d costs v : 
   made-low : apart < never
   made-low = (let x = made-sum in omega (arith, x, k .low))
 
+  pub made-at : count + c .fault .sent .count ≤ getD v start 0
+  made-at = (let x = made-sum in let y = covers in omega (arith, x, y))
+
   -- the trace fits where the total does
   pub made-fits : (area : List ℕ) {one : List ℕ} → one ≡ sets area 0 way → getD v start 0 ≤ length area → count + length (step .sent) ≤ length one
   made-fits area e l = (let x = made-sum in let y = ap length e ∙ length-sets area 0 way in omega (arith, x, y, l))
 
-  pub made-fits-on : (area : List ℕ) {one two : List ℕ} {covered p q : ℕ} → one ≡ sets area 0 way → two ≡ sets one count (step .sent) → covered ≡ length (step .sent)
-      → p ≡ run g state (step .sent) → q ≡ run g state (step .received) → getD v start 0 ≤ length area → count + covered + entry d p q ≤ length two
-  made-fits-on area {one} e₁ e₂ ea ep eq l =
+  pub made-fits-on : (area : List ℕ) {one two : List ℕ} {p q : ℕ} → one ≡ sets area 0 way → two ≡ sets one count (step .sent)
+      → p ≡ run g state (step .sent) → q ≡ run g state (step .received) → getD v start 0 ≤ length area → count + c .fault .sent .count + entry d p q ≤ length two
+  made-fits-on area {one} e₁ e₂ ep eq l =
       let x = made-sum in
       let y = ap length e₂ ∙ length-sets one count (step .sent) ∙ ap length e₁ ∙ length-sets area 0 way in
-      rw (ep, eq) (omega (arith, x, y, ea, l))
+      rw (ep, eq) (omega (arith, x, y, covers, l))
 
   pub made-apart : {p q : ℕ} → p ≡ run g state (step .sent) → q ≡ run g state (step .received) → entry d p q < never
   made-apart ep eq = rw (ep, eq) made-low
@@ -143,23 +151,24 @@ module _ {g : Automaton} {ends : ℕ → ℕ → Bool} {set : ℕ} {d costs v : 
   made-is e = some-same (sym made-first ∙ e)
 
   -- the three parts written one after the other
-  pub made-written : {s : Series} (area : List ℕ) {one two three : List ℕ} {covered p q : ℕ} → firstHarmful g ends (steps set (g .symbols)) start ≡ some s → one ≡ sets area 0 way → two ≡ sets one count (step .sent)
-      → covered ≡ length (step .sent) → p ≡ run g state (step .sent) → q ≡ run g state (step .received) → three ≡ sets two (count + covered) (path g d (entry d p q) p q) → three ≡ sets area 0 (sentTrace s)
-  made-written {s} area e h₁ h₂ ea ep eq h₃ =
+  pub made-written : {s : Series} (area : List ℕ) {one two three : List ℕ} {p q : ℕ} → firstHarmful g ends (steps set (g .symbols)) start ≡ some s → one ≡ sets area 0 way → two ≡ sets one count (step .sent)
+      → p ≡ run g state (step .sent) → q ≡ run g state (step .received) → three ≡ sets two (count + c .fault .sent .count) (path g d (entry d p q) p q) → three ≡ sets area 0 (sentTrace s)
+  made-written {s} area {two = two} {p = p} {q = q} e h₁ h₂ ep eq h₃ =
       h₃
-      ∙ rw (ep, eq, ea, h₂, h₁, k .is-count)
+      ∙ ap (λ (j : ℕ). sets two (count + j) (path g d (entry d p q) p q)) covers
+      ∙ rw (ep, eq, h₂, h₁, k .is-count)
       (sets-append (sets area 0 way) (length way) (step .sent) (made .after)
       ∙ ap (λ (j : ℕ). sets (sets area 0 way) j (step .sent ++ made .after)) (let z : length way ≡ 0 + length way = omega arith in z)
       ∙ sets-append area 0 way (step .sent ++ made .after))
       ∙ ap (λ (t : Series). sets area 0 (sentTrace t)) (made-is e)
 
   -- the figures of the witness made
-  pub made-figures : {s : Series} (outs : List ℕ) {kind replacement x y p q : ℕ} → firstHarmful g ends (steps set (g .symbols)) start ≡ some s
-      → kind ≡ step .kind → replacement ≡ step .replacement → p ≡ run g state (step .sent) → q ≡ run g state (step .received)
+  pub made-figures : {s : Series} (outs : List ℕ) {x y p q : ℕ} → firstHarmful g ends (steps set (g .symbols)) start ≡ some s
+      → p ≡ run g state (step .sent) → q ≡ run g state (step .received)
       → x ≡ run g p (path g d (entry d p q) p q) → y ≡ run g q (path g d (entry d p q) p q)
-      → _≡_ {A = List ℕ} (getD v start 0 ∷ count ∷ kind ∷ replacement ∷ getD outs x 0 ∷ getD outs y 0 ∷ []) (seriesFigures (λ r. getD outs r 0) g start s)
-  made-figures {s} outs e ek er ep eq ex ey =
-      rw (distance, k .is-count, ek, er, ex, ey, ep, eq, sent, received) (ap (seriesFigures (λ r. getD outs r 0) g start) (made-is e))
+      → _≡_ {A = List ℕ} (getD v start 0 ∷ count ∷ c .fault .bit ∷ c .fault .replacement ∷ getD outs x 0 ∷ getD outs y 0 ∷ []) (seriesFigures (λ r. getD outs r 0) g start s)
+  made-figures {s} outs e ep eq ex ey =
+      rw (distance, k .is-count, ex, ey, ep, eq, sent, received) (ap (seriesFigures (λ r. getD outs r 0) g start) (made-is e))
     where
       distance : getD v start 0 ≡ length (sentTrace made)
       distance = (let x = made-sum in let y = sent-length made in let z = path-length g d apart (run g state (step .sent)) (run g state (step .received)) in omega (arith, x, y, z, k .is-count))

@@ -1,8 +1,10 @@
 // The fault question: immune, or vulnerable with the first witness; and the card of a table.
 use faults::FaultSet;
-use faults::NEVER;
 use monitor::Judgement;
 use monitor::Refusal;
+use pairs::NEVER;
+use theory::SQUARE_SIZE;
+use theory::STATE_LIMIT;
 ghost use mathlib.Core.Path.{_≡_};
 ghost use mathlib.Core.Option.{some};
 ghost use Prim.Native.Nat.{_≤_, _<_};
@@ -53,9 +55,9 @@ pub enum Carded {
 // The first witness from the start on. Its sent trace goes into the area.
 fn witness_of(
     outputs: &[u8],
-    square: &[u16; 4096],
-    costs: &[usize; 64],
-    totals: &[usize; 64],
+    square: &[u16; SQUARE_SIZE],
+    costs: &[usize; STATE_LIMIT],
+    totals: &[usize; STATE_LIMIT],
     nexts: &[u8],
     n: usize,
     k: usize,
@@ -72,26 +74,18 @@ fn witness_of(
     let count = approach.count;
     let choice = faults::best(square, nexts, n, k, set, state);
     let fault = choice.fault;
-    faults::write_sent(fault, area, count);
-    let p = faults::after_sent(nexts, n, k, state, fault);
-    let q = faults::after_received(nexts, n, k, state, fault);
-    let end = pairs::write_apart(
-        square,
-        nexts,
-        n,
-        k,
-        p,
-        q,
-        area,
-        count + faults::covered(fault),
-    );
+    faults::write_symbols(fault.sent, area, count);
+    let p = faults::after(nexts, n, k, state, fault.sent);
+    let q = faults::after(nexts, n, k, state, fault.received);
+    let at = count + fault.sent.count;
+    let end = pairs::write_apart(square, nexts, n, k, p, q, area, at);
     let sent = end.sent;
     let received = end.received;
     Witness {
         distance: totals[start],
         before: count,
-        kind: faults::bit_of(fault),
-        replacement: faults::replacement_of(fault),
+        kind: fault.bit,
+        replacement: fault.replacement,
         sent: outputs[sent] as usize,
         received: outputs[received] as usize,
     }
@@ -100,7 +94,7 @@ fn witness_of(
 // The finding for one fault set, from what all sets of a table and a reading share: the outputs of the states and the square of their distances.
 fn examine_set(
     outputs: &[u8],
-    square: &[u16; 4096],
+    square: &[u16; SQUARE_SIZE],
     nexts: &[u8],
     n: usize,
     k: usize,
@@ -154,7 +148,7 @@ fn examine_table(
     ensures figures { λ r. ⌜ finding r ≡ asks (roomQuestions (firstWitness (tableOf n k start (now (marks .entry)) (now (nexts .entry))) domain set) (length (now (area .entry)))) (tableFigures (tableOf n k start (now (marks .entry)) (now (nexts .entry))) domain set) ⌝ }
     ensures area { λ r. ⌜ now (area .exit) ≡ written (finding r) (witnessTrace (firstWitness (tableOf n k start (now (marks .entry)) (now (nexts .entry))) domain set)) (now (area .entry)) ⌝ }
 {
-    let mut outputs = [0u8; 64];
+    let mut outputs = [0u8; STATE_LIMIT];
     readings::write_readings(marks, nexts, n, k, domain, &mut outputs);
     let read = &outputs[0..n];
     let square = pairs::distances(nexts, n, k, read);
@@ -193,17 +187,20 @@ pub fn examine(body: &[u8], set: usize, domain: usize, area: &mut [u8]) -> Findi
     examine_table(marks, nexts, n, k, start, set, domain, area)
 }
 
+// As many bytes as the longest witness can have by the bound that is proved.
+const ROOM: usize = SQUARE_SIZE + STATE_LIMIT + 2;
+
 // An area that every witness fits.
-fn scratch() -> [u8; 4162]
+fn scratch() -> [u8; ROOM]
     ensures { λ r. ⌜ length r ≡ horizon stateLimit ⌝ }
 {
-    [0u8; 4162]
+    [0u8; ROOM]
 }
 
 // The distance under one fault set, 0 where it is missing.
 fn distance_in(
     marks: &[u8],
-    square: &[u16; 4096],
+    square: &[u16; SQUARE_SIZE],
     nexts: &[u8],
     n: usize,
     k: usize,

@@ -1,19 +1,24 @@
 -- `best` meets its contract: the best of the kinds passed.
-use Prim.Native.Nat.{_≤_, _-_}
+use mathlib.Core.Bool.{cond}
+use mathlib.Core.List.{List, []}
+use Prim.Native.Nat.{ℕ, _≤_, _-_}
 use borrow.Author.Needs.{needs}
 use Rattle.theory.specs.Lists.{each}
-use Rattle.theory.specs.Faults.{kinds, steps}
+use Rattle.theory.specs.Faults.{FaultStep, kinds, holds, stepsOfKind, steps}
 use Rattle.monitor.specs.Format.{automatonOf}
-use Rattle.faults.specs.Steps.{stepsIfHeld, Best}
+use Rattle.faults.specs.Steps.{Best}
 use Rattle.faults.proofs.Cheapest.{best-begin, best-turn, best-end}
 use Rattle.faults.proofs.best.Statement.{statement}
 use Rattle.faults.proofs.best.Tie as tie
 
+abbrev stepsIfHeld : ℕ → ℕ → ℕ → List FaultStep
+stepsIfHeld set k rank = cond (holds set rank) (stepsOfKind k rank) []
+
 abbrev Inv-loop : tie.InvT-loop
-Inv-loop square nexts n k set p best₀ kind₀ best kind = (kind ≤ kinds) × Best (automatonOf n k nexts) square p (each kind (stepsIfHeld set k)) best
+Inv-loop square nexts n k set p best₀ rank₀ best rank = (rank ≤ kinds) × Best (automatonOf n k nexts) square p (each rank (stepsIfHeld set k)) best
 
 abbrev μ-loop : tie.MeasureT-loop
-μ-loop square nexts n k set p best₀ kind₀ best kind = kinds - kind
+μ-loop square nexts n k set p best₀ rank₀ best rank = kinds - rank
 
 no-choice-requires : tie.Need-no-choice-requires Inv-loop μ-loop
 no-choice-requires c κs = search needs
@@ -29,8 +34,8 @@ best-if-held-requires c κs = search needs
 cheaper-requires : tie.Need-cheaper-requires Inv-loop μ-loop
 cheaper-requires c κs = search needs
 
-add-kind : tie.Need-add-kind Inv-loop μ-loop
-add-kind c = search needs
+add-rank : tie.Need-add-rank Inv-loop μ-loop
+add-rank c = search needs
 
 loop-less : tie.Need-loop-less Inv-loop μ-loop
 loop-less c = search needs
@@ -58,7 +63,7 @@ best-spec =
     loop-holds
     best-if-held-requires
     cheaper-requires
-    add-kind
+    add-rank
     loop-less
     loop-again
     returns)

@@ -8,7 +8,7 @@ shr-result : tie.Need-shr-result
 shr-result c = search needs
 
 returns : tie.Need-returns
-returns c = bit-read (c .args .set) (c .args .kind)
+returns c = bit-read (c .args .set) (c .args .rank)
 
 pub has-kind-spec : {M : Type 1} → statement M
 has-kind-spec = tie.close (tie.spec shr-result returns)

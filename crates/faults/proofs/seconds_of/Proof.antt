@@ -15,7 +15,7 @@ returns-3 : tie.Need-returns-3
 returns-3 c = search needs
 
 returns-4 : tie.Need-returns-4
-returns-4 c = rw (past-two (c .before .args .kind) (omega (arith, c .match .rest)))
+returns-4 c = rw (past-two (c .before .args .rank) (omega (arith, c .match .rest)))
 
 pub seconds-of-spec : {M : Type 1} → statement M
 seconds-of-spec = tie.close (tie.spec returns returns-2 returns-3 returns-4)
