@@ -7,6 +7,7 @@ use lib.Dec.{eqb}
 use lib.ListN.{length}
 use borrow.Author.Tests.{le-leb, lt-leb}
 use Rattle.theory.specs.Answer.{Answer, refused, answered, asks, written}
+use Rattle.theory.specs.Faults.{allFaults}
 use Rattle.theory.specs.Monitor.{Monitor}
 use Rattle.theory.specs.Computed.{firstWitness}
 use Rattle.theory.proofs.Answer.{untouched}
@@ -36,18 +37,18 @@ module _ (limit : ℕ) (b : List ℕ) (set d : ℕ) (area : List ℕ) where
     unfolding faultAnswer
     examine-asks = accepted-asks limit b (faultQuestions set d (firstWitness (monitorOf b) d set) (length area)) (tableFigures (monitorOf b) d set) e
 
-    pub examine-no-set : 15 < set → Promised limit b set d area (refused 9 0) area
-    examine-no-set l = refuses (examine-asks ∙ rw (lt-leb set 15 l))
+    pub examine-no-set : allFaults < set → Promised limit b set d area (refused 9 0) area
+    examine-no-set l = refuses (examine-asks ∙ rw (lt-leb set allFaults l))
 
     -- `known` is the answer to question 10
-    module _ (l : set ≤ 15) {known : Bool} (k : known ≡ (eqb d 3 || eqb d 6)) where
+    module _ (l : set ≤ allFaults) {known : Bool} (k : known ≡ (eqb d 3 || eqb d 6)) where
       pub examine-no-reading : known ≡ false → Promised limit b set d area (refused 10 0) area
-      examine-no-reading h = refuses (examine-asks ∙ rw (le-leb set 15 l, ← k, h))
+      examine-no-reading h = refuses (examine-asks ∙ rw (le-leb set allFaults l, ← k, h))
 
       pub examine-found : (m : Monitor) {answer : Answer} {after : List ℕ} → known ≡ true → m ≡ monitorOf b
           → answer ≡ asks (roomQuestions (firstWitness m d set) (length area)) (tableFigures m d set) → after ≡ written answer (witnessTrace (firstWitness m d set)) area → Promised limit b set d area answer after
       examine-found m {answer} h em ea eb =
-          let whole : answer ≡ faultAnswer limit b set d (length area) = ea ∙ ap (λ (x : Monitor). asks (roomQuestions (firstWitness x d set) (length area)) (tableFigures x d set)) em ∙ sym (examine-asks ∙ rw (le-leb set 15 l, ← k, h)) in
+          let whole : answer ≡ faultAnswer limit b set d (length area) = ea ∙ ap (λ (x : Monitor). asks (roomQuestions (firstWitness x d set) (length area)) (tableFigures x d set)) em ∙ sym (examine-asks ∙ rw (le-leb set allFaults l, ← k, h)) in
           (whole, eb ∙ ap (λ (x : Monitor). written answer (witnessTrace (firstWitness x d set)) area) em ∙ ap (λ (a : Answer). written a (faultTrace b set d) area) whole)
 
 module _ (limit : ℕ) (b : List ℕ) where

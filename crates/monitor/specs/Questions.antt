@@ -6,6 +6,7 @@ use lib.ListN.{length, getD}
 use lib.Dec.{eqb, leb, ltb}
 use Rattle.theory.specs.Below.{first}
 use Rattle.theory.specs.Answer.{Question, Answer, refused, answered, asks}
+use Rattle.theory.specs.Faults.{allFaults}
 use Rattle.theory.specs.Monitor.{symbolLimit}
 use Rattle.monitor.specs.Format.{statesOf, symbolsOf, startOf, drawnMarks, nexts}
 use Rattle.monitor.specs.declared.Judgement.{Judgement}
@@ -65,7 +66,7 @@ question8 b = ofEach 8 (3 + statesOf b) (firstRevoking (drawnMarks b) (nexts b) 
 
 -- "Is the fault set at most 15? 9, place 0."
 abbrev pub question9 : ℕ → Question
-question9 set = record { yes = leb set 15; number = 9; place = 0 }
+question9 set = record { yes = leb set allFaults; number = 9; place = 0 }
 
 -- "Is the reading 3 or 6? 10, place 0."
 abbrev pub question10 : ℕ → Question

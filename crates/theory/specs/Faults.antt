@@ -1,7 +1,7 @@
 -- The faults of a link as fault steps. Of all definitions only these tell one kind of fault from another; the others are about any fault step.
 use mathlib.Core.Bool.{Bool, cond}
 use mathlib.Core.List.{List, [], _∷_}
-use Prim.Native.Nat.{ℕ, zero, suc, _/_, _%_, _^_}
+use Prim.Native.Nat.{ℕ, zero, suc, _-_, _/_, _%_, _^_}
 use lib.Bits.{bitOr}
 use lib.Dec.{eqb}
 use Rattle.theory.specs.Lists.{each}
@@ -32,6 +32,10 @@ swap a b = record { kind = 8; sent = a ∷ b ∷ []; received = b ∷ a ∷ []; 
 -- how many kinds there are; they count from 0 in the written order, and kind c has the bit 2 ^ c
 abbrev pub kinds : ℕ
 kinds = 4
+
+-- the set of all faults, the greatest there is: 15
+abbrev pub allFaults : ℕ
+allFaults = 2 ^ kinds - 1
 
 -- the fault step of kind c at symbol a; b is the replacement or the neighbour
 abbrev pub stepOf : ℕ → ℕ → ℕ → FaultStep
