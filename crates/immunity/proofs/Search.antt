@@ -10,7 +10,6 @@ use native.Mathlib.Omega.{arith}
 use lib.Dec.{eqb, ltb}
 use lib.ListN.{length, getD}
 use borrow.Author.Tests.{eqb-true, eqb-false, eq-eqb, le-leb, ltb-false}
-use Rattle.theory.specs.Below.{first}
 use Rattle.theory.specs.Lists.{In, find, each}
 use Rattle.theory.specs.Automaton.{Automaton, Closed, Trace, run}
 use Rattle.theory.specs.Monitor.{stateLimit}

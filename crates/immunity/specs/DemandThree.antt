@@ -9,7 +9,8 @@ use Rattle.theory.specs.Answer.{answered}
 use Rattle.theory.specs.Monitor.{Monitor, reading}
 use Rattle.theory.specs.Faults.{holds, repetition, together}
 use Rattle.theory.specs.Series.{Series, sentTrace}
-use Rattle.theory.specs.Distance.{Extent, number, missing, smaller, AtMost, Joined, Distance, DistanceOfSeveral, FirstWitness, reads, faultsOf}
+use Rattle.theory.specs.Extent.{Extent, number, missing, smaller, AtMost}
+use Rattle.theory.specs.Distance.{Joined, Distance, DistanceOfSeveral, FirstWitness, reads, faultsOf}
 use Rattle.theory.specs.Computed.{distance}
 use Rattle.monitor.specs.Format.{monitorOf}
 use Rattle.immunity.specs.Findings.{seriesFigures, faultAnswer, faultTrace}

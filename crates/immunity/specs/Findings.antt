@@ -8,7 +8,7 @@ use Rattle.theory.specs.Automaton.{Automaton, run}
 use Rattle.theory.specs.Monitor.{Monitor, reading, monitorability}
 use Rattle.theory.specs.Faults.{steps}
 use Rattle.theory.specs.Series.{Series, sentTrace, receivedTrace}
-use Rattle.theory.specs.Distance.{Extent, number, missing}
+use Rattle.theory.specs.Extent.{Extent, number, missing}
 use Rattle.theory.specs.Computed.{firstHarmful, firstWitness, distance}
 use Rattle.monitor.specs.Format.{automatonOf, monitorOf}
 use Rattle.monitor.specs.Questions.{tableQuestions, question9, question10, question13}

@@ -1,6 +1,6 @@
 -- The first of the shortest traces that tell two states apart, read off the square.
 use mathlib.Core.Path.{_≡_, refl, ap, _∙_}
-use mathlib.Core.Bool.{Bool, false}
+use mathlib.Core.Bool.{Bool, true, false, cond}
 use mathlib.Core.List.{List, [], _∷_, map}
 use mathlib.Core.Logic.{⊎-elim}
 use mathlib.Core.Option.{some}
@@ -9,20 +9,33 @@ use native.Mathlib.Nat.{lt-of-le-of-lt}
 use native.Mathlib.Omega.{arith}
 use lib.Dec.{eqb}
 use lib.ListN.{length}
-use borrow.Author.Tests.{eq-eqb, eqb-true}
+use borrow.Author.Tests.{eq-eqb, eqb-true, eqb-false}
 use Rattle.theory.specs.Automaton.{Automaton, Closed, Trace, run}
 use Rattle.theory.specs.Lists.{find}
 use Rattle.theory.specs.Series.{words}
-use Rattle.theory.specs.Pairs.{Tells}
+use Rattle.theory.specs.Extent.{number, missing, ShortestLength}
+use Rattle.theory.specs.Pairs.{Tells, PairDistance}
 use Rattle.theory.proofs.Below.{clash, not-clash, lt-or-le, first-below, first-here}
 use Rattle.theory.proofs.Lists.{find-none, find-each, find-map, find-map-none}
 use Rattle.theory.proofs.Series.{words-in}
 use Rattle.theory.proofs.Pairs.{tells-step, tells-rest, tells-ends, told-sound, told-complete, told-settled}
-use Rattle.pairs.specs.Square.{never, entry, Noted, Squared, nearer, Falling, path}
+use Rattle.pairs.specs.Square.{never, entry, extent, Noted, Squared, nearer, Falling, path}
 
 -- a list with the property is at least as long as noted
 pub noted-least : {P : List ℕ → Type 0} {e : ℕ} → Noted P e → (w : List ℕ) → P w → e ≤ length w
 noted-least {e = e} s w h = ⊎-elim (λ l. s .found l .least w h) (λ l. absurd (s .none (omega (arith, s .most)) w h)) (lt-or-le e never)
+
+-- an entry stands for the length of the shortest list with the property, or for there being none
+pub noted-extent : {P : List ℕ → Type 0} (e : ℕ) → Noted P e → ShortestLength P (extent e)
+noted-extent {P} e s = go (eqb e never) refl
+  where
+    go : (b : Bool) → eqb e never ≡ b → ShortestLength P (cond b missing (number e))
+    go true h = s .none (eqb-true e never h)
+    go false h = s .found (⊎-elim (λ l. l) (λ l. absurd (eqb-false e never h (omega (arith, s .most)))) (lt-or-le e never))
+
+-- the square holds the distance of every pair
+pub square-exact : {g : Automaton} {ends : ℕ → ℕ → Bool} {d : List ℕ} → Squared g ends d → (p q : ℕ) → p < g .states → q < g .states → PairDistance g ends p q (extent (entry d p q))
+square-exact {d = d} s p q lp lq = noted-extent (entry d p q) (s .noted p q lp lq)
 
 module _ (g : Automaton) (d : List ℕ) (e p q : ℕ) where
   -- the symbol leads from p and q to a pair with the entry e

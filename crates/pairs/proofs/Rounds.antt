@@ -14,7 +14,7 @@ use Rattle.theory.specs.Below.{any}
 use Rattle.theory.specs.Automaton.{Automaton, Closed}
 use Rattle.theory.specs.Monitor.{stateLimit}
 use Rattle.theory.specs.Pairs.{Tells, told}
-use Rattle.theory.specs.Distance.{Shortest}
+use Rattle.theory.specs.Extent.{Shortest}
 use Rattle.theory.proofs.Below.{clash, lt-or-le, or-right, and-left, and-right, any-at, any-same, any-more}
 use Rattle.theory.proofs.Pairs.{onward, told-sound, told-complete, told-more, told-up, still-ever, told-settled, tells-same}
 use Rattle.pairs.specs.Square.{never, squareSize, entry, Noted, Squared, New, Rounds, begins, leadsWithin, adds, Fresh, Stage, Midway}

@@ -9,7 +9,7 @@ use lib.ListN.{length, getD}
 use Rattle.theory.specs.Below.{any, first}
 use Rattle.theory.specs.Automaton.{Automaton}
 use Rattle.theory.specs.Monitor.{stateLimit}
-use Rattle.theory.specs.Distance.{Shortest}
+use Rattle.theory.specs.Extent.{Extent, number, missing, Shortest}
 use Rattle.theory.specs.Pairs.{Tells, told}
 
 -- "not told apart"
@@ -23,6 +23,10 @@ squareSize = stateLimit * stateLimit
 -- what stands in the square for the states p and q
 abbrev pub entry : List ℕ → ℕ → ℕ → ℕ
 entry d p q = getD d (p * stateLimit + q) 0
+
+-- what an entry stands for
+abbrev pub extent : ℕ → Extent
+extent e = cond (eqb e never) missing (number e)
 
 -- e notes the length of the shortest list with the property, or that there is none
 pub record Noted (P : List ℕ → Type 0) (e : ℕ) : Type 0 where

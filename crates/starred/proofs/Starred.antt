@@ -12,7 +12,8 @@ use Rattle.theory.specs.Monitor.{Monitor, WellFormed, class, monitorability, re
 use Rattle.theory.specs.Pairs.{told}
 use Rattle.theory.specs.Faults.{steps}
 use Rattle.theory.specs.Series.{Series, sentTrace, harmful, words, series}
-use Rattle.theory.specs.Distance.{number, missing, Distance, differ, faultsOf}
+use Rattle.theory.specs.Extent.{number, missing}
+use Rattle.theory.specs.Distance.{Distance, differ, faultsOf}
 use Rattle.theory.specs.Computed.{horizon, firstWitness, extentOf}
 use Rattle.theory.proofs.Faults.{steps-good}
 use Rattle.theory.proofs.Witness.{strikes, found-early, found-never}

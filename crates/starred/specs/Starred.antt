@@ -6,7 +6,8 @@ use lib.ListN.{length}
 use Rattle.theory.specs.Answer.{answered}
 use Rattle.theory.specs.Monitor.{Monitor, Class, Monitorability, stateLimit}
 use Rattle.theory.specs.Series.{Series, sentTrace}
-use Rattle.theory.specs.Distance.{number, missing, Distance, FirstWitness}
+use Rattle.theory.specs.Extent.{number, missing}
+use Rattle.theory.specs.Distance.{Distance, FirstWitness}
 use Rattle.monitor.specs.Format.{monitorOf}
 use Rattle.monitor.specs.Questions.{judgeAnswer}
 

@@ -6,7 +6,7 @@ use Prim.Native.Nat.{ℕ, _≤_, _<_, min}
 use native.Mathlib.Nat.{le-antisymm}
 use native.Mathlib.Omega.{arith}
 use lib.ListN.{length}
-use Rattle.theory.specs.Distance.{Extent, number, missing, Shortest, ShortestLength, smaller, AtMost}
+use Rattle.theory.specs.Extent.{Extent, number, missing, Shortest, ShortestLength, smaller, AtMost}
 use Rattle.theory.proofs.Below.{lt-or-le}
 
 pub shortest-one : (P : List ℕ → Type 0) (e f : Extent) → ShortestLength P e → ShortestLength P f → e ≡ f

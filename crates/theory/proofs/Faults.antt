@@ -81,19 +81,20 @@ steps-shrink set k without s i =
     go (suc (suc zero)) e a b = absurd (clash e without)
     go (suc (suc (suc c))) e a b = le-refl 2
 
+-- a step of one set is a step of every set that has its kind
+other-set : (F G k : ℕ) (s : FaultStep) (h : Held F k s) → holds G (h .place) ≡ true → In s (steps G k)
+other-set F G k s h e =
+    held-steps G k s (record { place = h .place; first = h .first; second = h .second; place-in = h .place-in; held = e; first-in = h .first-in; second-in = h .second-in; is = h .is })
+
+wider : (F G k : ℕ) (s : FaultStep) → ((c : ℕ) → holds F c ≡ true → holds G c ≡ true) → In s (steps F k) → In s (steps G k)
+wider F G k s over i = (let h = steps-held F k s i in other-set F G k s h (over (h .place) (h .held)))
+
 -- two sets together have the steps of either, and no other
 pub of-either : (F G k : ℕ) (s : FaultStep) → In s (steps (together F G) k) → In s (steps F k) ⊎ In s (steps G k)
 of-either F G k s i =
     let h = steps-held (together F G) k s i in
-    ⊎-elim
-    (λ e. inl (held-steps F k s (record { place = h .place; first = h .first; second = h .second; place-in = h .place-in; held = e; first-in = h .first-in; second-in = h .second-in; is = h .is })))
-    (λ e. inr (held-steps G k s (record { place = h .place; first = h .first; second = h .second; place-in = h .place-in; held = e; first-in = h .first-in; second-in = h .second-in; is = h .is })))
+    ⊎-elim (λ e. inl (other-set (together F G) F k s h e)) (λ e. inr (other-set (together F G) G k s h e))
     (or-cases (holds F (h .place)) (holds G (h .place)) (sym (bit-or F G (h .place)) ∙ h .held))
-
-wider : (F G k : ℕ) (s : FaultStep) → ((c : ℕ) → holds F c ≡ true → holds G c ≡ true) → In s (steps F k) → In s (steps G k)
-wider F G k s over i =
-    let h = steps-held F k s i in
-    held-steps G k s (record { place = h .place; first = h .first; second = h .second; place-in = h .place-in; held = over (h .place) (h .held); first-in = h .first-in; second-in = h .second-in; is = h .is })
 
 pub first-of-two : (F G k : ℕ) (s : FaultStep) → In s (steps F k) → In s (steps (together F G) k)
 first-of-two F G k s = wider F (together F G) k s (λ c e. bit-or F G c ∙ or-left (holds F c) (holds G c) e)

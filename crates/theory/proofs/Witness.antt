@@ -17,7 +17,8 @@ use Rattle.theory.specs.Automaton.{Automaton, Closed, Trace, run, reache
 use Rattle.theory.specs.Pairs.{Tells, told}
 use Rattle.theory.specs.Faults.{FaultStep}
 use Rattle.theory.specs.Series.{Series, Valid, sentTrace, receivedTrace, harmful, StepFirst, Precedes, series}
-use Rattle.theory.specs.Distance.{ShortestLength, HarmedFrom}
+use Rattle.theory.specs.Extent.{ShortestLength}
+use Rattle.theory.specs.Distance.{HarmedFrom}
 use Rattle.theory.specs.Computed.{horizon, firstHarmful, extentOf}
 use Rattle.theory.proofs.Below.{clash, not-clash, and-both, lt-or-le, any-at}
 use Rattle.theory.proofs.Lists.{InEach, each-in, in-each, find-in, find-none, find-each, find-each-more, find-same, none-passes, find-first}

@@ -9,7 +9,8 @@ use Rattle.theory.specs.Automaton.{Automaton}
 use Rattle.theory.specs.Monitor.{Monitor}
 use Rattle.theory.specs.Faults.{FaultStep}
 use Rattle.theory.specs.Series.{Series, sentTrace, harmful, series}
-use Rattle.theory.specs.Distance.{Extent, number, missing, differ, faultsOf}
+use Rattle.theory.specs.Extent.{Extent, number, missing}
+use Rattle.theory.specs.Distance.{differ, faultsOf}
 
 -- with n states, if any series is harmful, one with at most so many symbols sent is
 abbrev pub horizon : ℕ → ℕ

@@ -3,6 +3,7 @@ pub mod Lists
 pub mod Automaton
 pub mod Monitor
 pub mod Answer
+pub mod Extent
 pub mod Pairs
 pub mod Faults
 pub mod Series
