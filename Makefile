@@ -3,7 +3,7 @@ SHELL := /bin/bash
 
 # Builds the program over one table and runs it on table E of the specification.
 sample:
-	@echo 'proving and building: about three minutes the first time' >&2
+	@echo 'proving and building: about two minutes the first time' >&2
 	@rt check inspect > /dev/null
 	@target/bin/inspect < crates/inspect/stdin
 
