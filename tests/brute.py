@@ -2,7 +2,7 @@
 """Compares the fault question and the card, as the program `probe` answers them, with a search that tries every series of steps.
 
 The search is written from the specification alone and knows neither distances of pairs nor reachable states. It goes up to sent length
-2 * n - 1; no distance is greater.
+2 * n - 1; a witness longer than that would show as a difference, since the program would not say immune.
 """
 import collections
 import functools
@@ -126,7 +126,7 @@ def questions(b, found):
 # ---- the tables
 
 # Tables found by hill climbing: distances up to 6, up to 5 messages before the fault, and in the last six a distance by classes that is
-# less than the one by marks. Those with more than 6 states or 2 messages are vulnerable to each fault, so that the search ends early.
+# less than the one by marks. Those with 7 states or 3 messages are vulnerable to each fault, so that the search ends early.
 FAR = """
     040201000000020202000003010303
     040202000100000003010100010203

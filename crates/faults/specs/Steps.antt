@@ -34,11 +34,11 @@ pub record Ranged (k : ℕ) (f : Fault) : Type 0 where
   pub sent-in : Inside k (f .sent)
   pub received-in : Inside k (f .received)
 
--- l symbols and then as many as e notes; never where e is, and where the sum would reach it
+-- l symbols and then as many as e notes; never where e is never or the sum reaches never
 abbrev pub plus : ℕ → ℕ → ℕ
 plus l e = cond (ltb (l + e) never) (l + e) never
 
--- the fewest symbols sent from p by a series that begins with the fault step s, by the square d
+-- the fewest symbols sent from p by a harmful series that begins with the fault step s, by the square d
 abbrev pub costOf : Automaton → List ℕ → ℕ → FaultStep → ℕ
 costOf g d p s = plus (length (s .sent)) (entry d (run g p (s .sent)) (run g p (s .received)))
 

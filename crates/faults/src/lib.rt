@@ -43,7 +43,7 @@ impl FaultSet {
         Self { bits: 0 }
     }
 
-    // The set with this kind in it too. It is one of the four constants, or any union of them.
+    // The set with the bits of `kind` too: one of the constants, or any number. Question 9 refuses a set with a bit of no fault.
     pub fn with(mut self, kind: usize) -> Self
         ensures { λ r. ⌜ r .bits ≡ bitOr (self .bits) kind ⌝ }
     {
@@ -106,7 +106,7 @@ fn seconds_of(rank: usize, k: usize) -> usize
 }
 
 // The fault step of a kind, by its rank in the written order, at symbol a; b is the replacement or the neighbour.
-// Only this function and `seconds_of` tell one kind from another.
+// Only this function and `seconds_of` say what a kind does.
 fn fault_of(rank: usize, a: usize, b: usize) -> Fault
     requires { ⌜ rank < kinds ⌝ }
     ensures step { λ r. ⌜ stepFor r ≡ stepOf rank a b ⌝ }
@@ -170,7 +170,7 @@ pub fn write_symbols(symbols: Symbols, area: &mut [u8], at: usize)
     area[at + 1] = symbols.second as u8;
 }
 
-// The cost of a fault at p, and NEVER where the sum would reach that.
+// The cost of a fault at p, or NEVER where the sum would reach it.
 fn cost_of(
     square: &[u16; SQUARE_SIZE],
     nexts: &[u8],

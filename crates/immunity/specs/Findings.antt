@@ -53,10 +53,11 @@ faultAnswer limit b set d room = asks (tableQuestions limit b ++ faultQuestions 
 abbrev pub faultTrace : List ℕ → ℕ → ℕ → List ℕ
 faultTrace b set d = witnessTrace (firstWitness (monitorOf b) d set)
 
--- 01's numbers of a finding
+-- the six values of a witness, in 01's order
 abbrev pub witnessValues : Witness → List ℕ
 witnessValues w = w .distance ∷ w .before ∷ w .kind ∷ w .replacement ∷ w .sent ∷ w .received ∷ []
 
+-- 01's number and place of a refusal, or the values of a finding
 abbrev pub finding : Finding → Answer
 finding (Refused r) = refused (r .number) (r .place)
 finding Immune = answered []
@@ -87,10 +88,11 @@ cardFigures m = m .automaton .states ∷ monitorability m ∷ column (distance m
 unfoldable pub cardAnswer : ℕ → List ℕ → Answer
 cardAnswer limit b = asks (tableQuestions limit b) (cardFigures (monitorOf b))
 
--- 01's numbers of a card
+-- the values of a card
 abbrev pub cardValues : LinkCard → List ℕ
 cardValues c = c .states ∷ c .monitorability ∷ c .loss ∷ c .corruption ∷ c .repeat ∷ c .swap ∷ []
 
+-- 01's number and place of a refusal, or the values of a card
 abbrev pub carded : Carded → Answer
 carded (Carded.Card c) = answered (cardValues c)
 carded (Carded.Refused r) = refused (r .number) (r .place)

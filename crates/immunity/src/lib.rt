@@ -190,7 +190,7 @@ pub fn examine(body: &[u8], set: usize, domain: usize, area: &mut [u8]) -> Findi
 // As many bytes as the longest witness can have by the bound that is proved.
 const ROOM: usize = SQUARE_SIZE + STATE_LIMIT + 2;
 
-// An area that every witness fits.
+// An area long enough for every witness.
 fn scratch() -> [u8; ROOM]
     ensures { λ r. ⌜ length r ≡ horizon stateLimit ⌝ }
 {

@@ -1,4 +1,4 @@
--- The path written symbol by symbol: what is written and what is still to be written make up the whole.
+-- The path written symbol by symbol: part written, part to come.
 use mathlib.Core.Path.{_≡_, refl, sym, ap, _∙_}
 use mathlib.Core.List.{List}
 use Prim.Native.Nat.{ℕ, suc, _+_, _-_, _≤_, _<_}

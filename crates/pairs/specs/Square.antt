@@ -96,7 +96,7 @@ pub record Stage (g : Automaton) (ends : ℕ → ℕ → Bool) (r p q e : ℕ) :
   pub agrees : (s : ℕ) → s ≤ r → told g ends s p q ≡ leb e s
   pub known : (e ≤ r) ⊎ (e ≡ never)
 
--- the square in the middle of the round after r: the pairs before place i (row by row) have had it, the others not; `added` counts those that are new
+-- the square in the middle of the round after r: the pairs before place i (row by row) have had it, the others not; where `added` is 0 none of them is new, and where it is not some pair is
 pub record Midway (g : Automaton) (ends : ℕ → ℕ → Bool) (r i added : ℕ) (d : List ℕ) : Type 0 where
   pub size : length d ≡ squareSize
   pub done : (p q : ℕ) → p < g .states → q < g .states → p * stateLimit + q < i → Stage g ends (suc r) p q (entry d p q)

@@ -17,7 +17,7 @@ pub const NEVER: usize = 65535;
 // The same as an entry of the square.
 const NEVER_ENTRY: u16 = NEVER as u16;
 
-// Two states, reached by the sent and by the received trace.
+// The two states that one trace leads to from two states, which the caller has from what was sent and from what was received.
 pub struct Pair {
     pub sent: usize,
     pub received: usize,
@@ -152,7 +152,7 @@ fn refine_row(
     count
 }
 
-// The round after r: every pair that is not told apart within r symbols, and is within r + 1. Returns how many are new.
+// The round after r: enters r + 1 for every pair that is told apart within r + 1 symbols and not within r. Returns how many, and 0 exactly if there is none.
 fn refine_all(square: &mut [u16; SQUARE_SIZE], nexts: &[u8], n: usize, k: usize, r: usize) -> usize
     requires { ⌜ Rows stateLimit n k (now nexts) × (r + 1 < never) ⌝ }
     ensures { λ b. ⌜ ((ends : ℕ → ℕ → Bool) → Midway (automatonOf n k (now (nexts .entry))) ends r 0 0 (now (square .entry)) → Midway (automatonOf n k (now (nexts .entry))) ends r (n * stateLimit) b (now (square .exit))) ⌝ }
@@ -216,7 +216,7 @@ fn nearer_by(
     a
 }
 
-// Writes the first of the shortest traces that tell p and q apart into the area, from `at` on, and returns where it leads.
+// Writes the first of the shortest traces that tell p and q apart into the area, from `at` on, and returns the two states it leads to.
 pub fn write_apart(
     square: &[u16; SQUARE_SIZE],
     nexts: &[u8],

@@ -77,7 +77,7 @@ module _ (m : Monitor) (d : ℕ) where
     joined-alike im (forth {x} {y} {z} f j) = faulted-alike im x y f ∙ joined-alike im j
     joined-alike im (back {x} {y} {z} f j) = sym (faulted-alike im y x f) ∙ joined-alike im j
 
-    -- a harmed trace is joined to what harms it
+    -- where all joined traces read alike no trace is harmed, since a fault joins sent and received
     pub alike-immune : ((x y : List ℕ) → Joined g F x y → reads m d x ≡ reads m d y) → Immune
     alike-immune alike w h = differ-not w (h .received) (h .differs) (alike w (h .received) (forth (h .fault) (itself (received-is-trace g F (steps-good g set) (h .fault)))))
 
@@ -94,7 +94,7 @@ module _ (m : Monitor) (d : ℕ) where
         long : (u v w : List ℕ) → length (u ++ (v ++ w)) ≡ length u + (length v + length w)
         long u v w = length-append u (v ++ w) ∙ ap (λ (l : ℕ). length u + l) (length-append v w)
 
-    -- a chain whose ends differ has a link whose ends differ, and what is sent there is not longer than what was sent first
+    -- some single fault of a chain changes the reading if the whole chain does; the trace it strikes is no longer than the first one
     link : holds set repetition ≡ false → {x y : List ℕ} → Chained g F x y → differ m d (run g (m .start) x) (run g (m .start) y) ≡ true → (v : List ℕ) × Harmed m d set v × (length v ≤ length x)
     link without (end {x} t) e = absurd (differ-not x x e refl)
     link without (then {x} {y} {z} f c) e =

@@ -1,4 +1,4 @@
--- The written order is a strict order: no series precedes itself, and what precedes what precedes a third precedes the third.
+-- The written order is a strict order: no series precedes itself, and the order is transitive.
 use mathlib.Core.Path.{_≡_, sym, _∙_, subst}
 use mathlib.Core.List.{List, [], _∷_}
 use mathlib.Core.Logic.{_⊎_, inl, inr, ⊎-elim}

@@ -187,7 +187,7 @@ module _ (g : Automaton) (ends : ℕ → ℕ → Bool) (faults : List FaultStep)
 
     -- ---- how a search finds the first
 
-    -- what no series shorter than l, and of length l first s, passes, is the first
+    -- if no harmful series is shorter than l, the first harmful one of length l is the first of all
     pub found-first : (l : ℕ) (s : Series) → l ≤ horizon (g .states) → ((t : Series) → Harm q t → l ≤ length (sentTrace t))
         → find (harmful g ends q) (series faults (g .symbols) l) ≡ some s → firstHarmful g ends faults q ≡ some s
     unfolding firstHarmful

@@ -33,7 +33,7 @@ module _ (g : Automaton) (faults : List FaultStep) where
     then : {x y z : List ℕ} → Faulted x y → Chained y z → Chained x z
 
   module _ (ends : ℕ → ℕ → Bool) (q : ℕ) where
-    -- one fault takes the sent and the received trace, from q on, to two states that pass the test
+    -- one fault makes of it a received trace, and the two states reached from q pass the test
     pub record HarmedFrom (sent : List ℕ) : Type 0 where
       pub received : List ℕ
       pub fault : Faulted sent received

@@ -1,4 +1,4 @@
--- The faults of a link as fault steps. Of all definitions only these tell one kind of fault from another; the others are about any fault step.
+-- The faults of a link as fault steps. Only these definitions say what a kind of fault does; the card names the kinds by their bits, and all others are about any fault step.
 use mathlib.Core.Bool.{Bool, cond}
 use mathlib.Core.List.{List, [], _∷_}
 use Prim.Native.Nat.{ℕ, zero, suc, _-_, _/_, _%_, _^_}
@@ -29,7 +29,7 @@ repeat a = record { kind = 4; sent = a ∷ []; received = a ∷ a ∷ []; replac
 abbrev pub swap : ℕ → ℕ → FaultStep
 swap a b = record { kind = 8; sent = a ∷ b ∷ []; received = b ∷ a ∷ []; replacement = 0 }
 
--- how many kinds there are; they count from 0 in the written order, and kind c has the bit 2 ^ c
+-- how many kinds there are; their ranks count from 0 in the written order, and rank c has the bit 2 ^ c
 abbrev pub kinds : ℕ
 kinds = 4
 
@@ -37,25 +37,25 @@ kinds = 4
 abbrev pub allFaults : ℕ
 allFaults = 2 ^ kinds - 1
 
--- the fault step of kind c at symbol a; b is the replacement or the neighbour
+-- the fault step of rank c at symbol a; b is the replacement or the neighbour
 abbrev pub stepOf : ℕ → ℕ → ℕ → FaultStep
 stepOf zero a b = loss a
 stepOf (suc zero) a b = corruption a b
 stepOf (suc (suc zero)) a b = repeat a
 stepOf (suc (suc (suc c))) a b = swap a b
 
--- how many b there are for kind c among k symbols; where a kind has no second symbol, b is 0
+-- how many b there are for rank c among k symbols; where a kind has no second symbol, b is 0
 abbrev pub seconds : ℕ → ℕ → ℕ
 seconds zero k = 1
 seconds (suc zero) k = k
 seconds (suc (suc zero)) k = 1
 seconds (suc (suc (suc c))) k = k
 
--- kind c is in the fault set: "Each fault has its fixed bit"
+-- the kind of rank c is in the fault set: "Each fault has its fixed bit"
 abbrev pub holds : ℕ → ℕ → Bool
 holds set c = eqb (set / 2 ^ c % 2) 1
 
--- the kind of repetition
+-- the rank of repetition
 abbrev pub repetition : ℕ
 repetition = 2
 
@@ -63,7 +63,7 @@ repetition = 2
 abbrev pub together : ℕ → ℕ → ℕ
 together F G = bitOr F G
 
--- the fault steps of kind c among k symbols
+-- the fault steps of rank c among k symbols
 abbrev pub stepsOfKind : ℕ → ℕ → List FaultStep
 stepsOfKind k c = each k (λ a. each (seconds c k) (λ b. stepOf c a b ∷ []))
 

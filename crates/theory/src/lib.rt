@@ -5,5 +5,5 @@ pub const STATE_LIMIT: usize = 64;
 
 pub const SYMBOL_LIMIT: usize = 16;
 
-// The number of pairs of states.
+// The places of the square: `squareSize` in pairs/specs/Square.antt.
 pub const SQUARE_SIZE: usize = STATE_LIMIT * STATE_LIMIT;

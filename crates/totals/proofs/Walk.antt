@@ -1,4 +1,4 @@
--- The symbols before the fault, written one by one: what is written with what is still to be written is the whole.
+-- The way to the fault, written one symbol at a time: part written, part to come.
 use mathlib.Core.Path.{_≡_, refl, sym, _∙_, ap}
 use mathlib.Core.Bool.{Bool, true, false}
 use mathlib.Core.List.{List, [], _∷_}

@@ -34,7 +34,7 @@ pub record Bounded (n : ℕ) (v : List ℕ) : Type 0 where
   pub size : length v ≡ stateLimit
   pub most : (p : ℕ) → p < n → getD v p 0 ≤ never
 
--- every total is attained, by some trace to a state with that cost, and is not above the state's own cost
+-- every total below never is the length of some trace plus the cost of the state it leads to, and no total is above the state's own cost
 pub record Attained (g : Automaton) (costs v : List ℕ) : Type 0 where
   pub above : (p : ℕ) → p < g .states → getD v p 0 ≤ getD costs p 0
   pub reached : (p : ℕ) → p < g .states → getD v p 0 < never → (w : List ℕ) × Trace g w × (getD v p 0 ≡ length w + getD costs (run g p w) 0)

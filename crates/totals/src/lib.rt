@@ -56,7 +56,7 @@ fn lower(totals: &mut [usize; STATE_LIMIT], nexts: &[u8], n: usize, k: usize, p:
     0
 }
 
-// Lowers every total once. Returns how many are lower.
+// One pass over all totals. Returns how many were lowered.
 fn lower_all(totals: &mut [usize; STATE_LIMIT], nexts: &[u8], n: usize, k: usize) -> usize
     requires { ⌜ Rows stateLimit n k (now nexts) × Bounded n (now totals) ⌝ }
     ensures { λ r. ⌜ Lowering (automatonOf n k (now (nexts .entry))) n r (now (totals .entry)) (now (totals .exit)) ⌝ }
@@ -70,7 +70,7 @@ fn lower_all(totals: &mut [usize; STATE_LIMIT], nexts: &[u8], n: usize, k: usize
     changed
 }
 
-// Lowers totals until none is lower: they begin as the costs of the states.
+// Passes over the totals, which begin as the costs of the states, until a pass lowers none.
 pub fn relax(totals: &mut [usize; STATE_LIMIT], nexts: &[u8], n: usize, k: usize)
     requires { ⌜ Rows stateLimit n k (now nexts) × Bounded n (now totals) ⌝ }
     ensures { λ _. ⌜ Relaxed (automatonOf n k (now (nexts .entry))) (now (totals .entry)) (now (totals .exit)) ⌝ }

@@ -1,4 +1,4 @@
--- `write_apart` meets its contract: what is written and what is still to be written make up the whole path.
+-- `write_apart` meets its contract: at each turn the part written and the part to come give the path.
 use native.Mathlib.Omega.{arith}
 use borrow.Author.Needs.{needs}
 use Rattle.monitor.specs.Format.{automatonOf}

@@ -1,4 +1,4 @@
--- `write_before` meets its contract: what is written with what is still to be written is the whole.
+-- `write_before` meets its contract: at each turn the part written and the part to come give the way.
 use native.Mathlib.Omega.{arith}
 use borrow.Author.Needs.{needs}
 use Rattle.monitor.specs.Format.{automatonOf}
