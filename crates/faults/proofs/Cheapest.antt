@@ -4,13 +4,13 @@ use mathlib.Core.Bool.{Bool, true, false, cond}
 use mathlib.Core.List.{List, [], _∷_, _++_}
 use mathlib.Core.Logic.{⊎-elim}
 use Prim.Native.Nat.{ℕ, _+_, _≤_, _<_}
-use native.Mathlib.Nat.{le-refl, le-trans, le-antisymm, le-of-lt, le-of-eq, lt-of-lt-of-le, not-suc-le-zero, le-of-suc-le-suc, eq-or-lt-of-le}
+use native.Mathlib.Nat.{le-trans, le-antisymm, le-of-lt, le-of-eq, lt-of-lt-of-le, not-suc-le-zero, le-of-suc-le-suc, eq-or-lt-of-le}
 use native.Mathlib.Numerals.{add-one}
 use native.Mathlib.Omega.{arith}
 use lib.Dec.{eqb, ltb}
 use lib.ListN.{length, getD, set, length-set}
 use lib.Seq.{getD-set-same, getD-set-other}
-use borrow.Author.Tests.{ltb-true, ltb-false, lt-ltb, le-ltb, eqb-true, eq-eqb, ne-eqb}
+use borrow.Author.Tests.{ltb-true, ltb-false, eqb-true, eq-eqb, ne-eqb}
 use Rattle.theory.specs.Lists.{In, find, each}
 use Rattle.theory.specs.Automaton.{Automaton, run}
 use Rattle.theory.specs.Monitor.{stateLimit}
@@ -23,17 +23,13 @@ use Rattle.faults.specs.Steps.{stepFor, Ranged, plus, costOf, Best, Chea
 -- ---- the cost of a step
 
 plus-most : (l e : ℕ) → plus l e ≤ never
-plus-most l e = go (ltb (l + e) never) refl
-  where
-    go : (b : Bool) → ltb (l + e) never ≡ b → cond b (l + e) never ≤ never
-    go true h = le-of-lt (ltb-true (l + e) never h)
-    go false h = le-refl never
+plus-most l e = omega arith
 
 pub plus-low : (l e : ℕ) → l + e < never → l + e ≡ plus l e
-plus-low l e h = rw (lt-ltb (l + e) never h)
+plus-low l e h = omega arith
 
 pub plus-high : (l e : ℕ) → never ≤ l + e → never ≡ plus l e
-plus-high l e h = rw (le-ltb (l + e) never h)
+plus-high l e h = omega arith
 
 -- by what the calls answer: the states x and y after the step, the symbols l that it covers, the entry e
 pub cost-is : (g : Automaton) (d : List ℕ) (p : ℕ) (s : FaultStep) {x y l e : ℕ}

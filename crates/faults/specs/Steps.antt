@@ -1,10 +1,9 @@
 -- Fault steps as the search handles them, and what the best of them costs at a state.
 use mathlib.Core.Path.{_≡_}
-use mathlib.Core.Bool.{cond}
 use mathlib.Core.List.{List, [], _∷_}
 use mathlib.Core.Option.{some}
-use Prim.Native.Nat.{ℕ, _+_, _≤_, _<_}
-use lib.Dec.{eqb, ltb}
+use Prim.Native.Nat.{ℕ, _+_, _≤_, _<_, min}
+use lib.Dec.{eqb}
 use lib.ListN.{length, getD, take}
 use Rattle.theory.specs.Lists.{In, find}
 use Rattle.theory.specs.Automaton.{Automaton, run}
@@ -34,9 +33,9 @@ pub record Ranged (k : ℕ) (f : Fault) : Type 0 where
   pub sent-in : Inside k (f .sent)
   pub received-in : Inside k (f .received)
 
--- l symbols and then as many as e notes; never where e is never or the sum reaches never
+-- l symbols and then as many as e notes; no more than never
 abbrev pub plus : ℕ → ℕ → ℕ
-plus l e = cond (ltb (l + e) never) (l + e) never
+plus l e = min (l + e) never
 
 -- the fewest symbols sent from p by a harmful series that begins with the fault step s, by the square d
 abbrev pub costOf : Automaton → List ℕ → ℕ → FaultStep → ℕ

@@ -7,7 +7,7 @@ use mathlib.Core.Option.{none, some}
 use Prim.Native.Nat.{ℕ, zero, suc, _+_, _-_, _*_, _≤_, _<_, zero-le}
 use native.Mathlib.Nat.{le-refl, mul-le-mul}
 use native.Mathlib.Omega.{arith}
-use lib.Dec.{eqb, ltb}
+use lib.Dec.{eqb}
 use lib.ListN.{length, getD}
 use borrow.Author.Tests.{eqb-true, eqb-false, eq-eqb, le-leb, ltb-false}
 use Rattle.theory.specs.Lists.{In, find, each}
@@ -30,19 +30,11 @@ use Rattle.totals.specs.Totals.{least, leastAfter, Attained, Relaxed, onward, a
 use Rattle.totals.proofs.Least.{least-le}
 
 plus-at-most : (l e : ℕ) → plus l e ≤ l + e
-plus-at-most l e = go (ltb (l + e) never) refl
-  where
-    go : (b : Bool) → ltb (l + e) never ≡ b → cond b (l + e) never ≤ l + e
-    go true h = le-refl (l + e)
-    go false h = ltb-false (l + e) never h
+plus-at-most l e = omega arith
 
 -- a cost below never is the sum
 pub cost-sum : (l e c : ℕ) → plus l e ≡ c → c < never → l + e ≡ c
-cost-sum l e c h s = go (ltb (l + e) never) refl h
-  where
-    go : (b : Bool) → ltb (l + e) never ≡ b → cond b (l + e) never ≡ c → l + e ≡ c
-    go true p q = q
-    go false p q = absurd (omega arith)
+cost-sum l e c h s = omega arith
 
 module _ {g : Automaton} {ends : ℕ → ℕ → Bool} {d costs v : List ℕ} (set : ℕ) (c : Closed g) (sq : Squared g ends d)
     (cs : Costs g d (steps set (g .symbols)) (g .states) costs) (st : Relaxed g costs v) where

@@ -4,7 +4,7 @@ use mathlib.Core.Bool.{Bool, true, false, cond}
 use mathlib.Core.List.{List, [], _∷_, map}
 use mathlib.Core.Logic.{⊎-elim}
 use mathlib.Core.Option.{some}
-use Prim.Native.Nat.{ℕ, zero, suc, _*_, _≤_, _<_, zero-le}
+use Prim.Native.Nat.{ℕ, zero, suc, _≤_, _<_, zero-le}
 use native.Mathlib.Nat.{lt-of-le-of-lt}
 use native.Mathlib.Omega.{arith}
 use lib.Dec.{eqb}
@@ -18,7 +18,7 @@ use Rattle.theory.specs.Pairs.{Tells, PairDistance}
 use Rattle.theory.proofs.Below.{clash, not-clash, lt-or-le, first-below, first-here}
 use Rattle.theory.proofs.Lists.{find-none, find-each, find-map, find-map-none}
 use Rattle.theory.proofs.Series.{words-in}
-use Rattle.theory.proofs.Pairs.{tells-step, tells-rest, tells-ends, told-sound, told-complete, told-settled}
+use Rattle.theory.proofs.Pairs.{tells-step, tells-rest, tells-ends}
 use Rattle.pairs.specs.Square.{never, entry, extent, Noted, Squared, nearer, Falling, path}
 
 -- a list with the property is at least as long as noted
@@ -120,10 +120,3 @@ module _ {g : Automaton} {ends : ℕ → ℕ → Bool} {d : List ℕ} (c : Close
       (λ w i. (let t = words-in g e w i in nothing-sooner e p q b lp lq h (omega (arith, la, lb)) lb w (t .0) (t .1)))))
       (find-map (apartBy g ends p q) (λ (w : List ℕ). a ∷ w) (words (g .symbols) e)
       (path-first e (g .next p a) (g .next q a) (c .next-in p a lp la) (c .next-in q a lq la) (nearer-leads g d e p q la) (omega arith)))
-
-  -- two states that are told apart are so within n * n symbols
-  pub apart-least : (p q : ℕ) → p < g .states → q < g .states → entry d p q < never → entry d p q ≤ g .states * g .states
-  apart-least p q lp lq l =
-      let w = s .noted p q lp lq .found l in
-      let b = told-sound g ends (g .states * g .states) p q (told-settled g ends c (length (w .word)) p q lp lq (told-complete g ends (length (w .word)) p q (w .word) (omega arith) (w .has))) in
-      omega (arith, w .least (b .word) (b .tells), b .short)

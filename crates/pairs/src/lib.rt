@@ -168,7 +168,7 @@ fn refine_all(square: &mut [u16; SQUARE_SIZE], nexts: &[u8], n: usize, k: usize,
 
 // Round by round until a round adds nothing. The pairs that hold 0 are told apart at once; after it every pair holds the fewest
 // symbols that lead to such a pair, or NEVER. Returns how many rounds added a pair.
-pub fn refine(square: &mut [u16; SQUARE_SIZE], nexts: &[u8], n: usize, k: usize) -> usize
+fn refine(square: &mut [u16; SQUARE_SIZE], nexts: &[u8], n: usize, k: usize) -> usize
     requires { ⌜ Rows stateLimit n k (now nexts) × Fresh n (now square) ⌝ }
     ensures square { λ _. ⌜ Squared (automatonOf n k (now (nexts .entry))) (begins (now (square .entry))) (now (square .exit)) ⌝ }
     ensures rounds { λ r. ⌜ Rounds (automatonOf n k (now (nexts .entry))) (begins (now (square .entry))) r ⌝ }

@@ -49,59 +49,6 @@ module _ (set k : ℕ) where
   unfolding steps
   held-steps s h = each-in s kinds ofKind (h .place) (h .place-in) (rw (h .held) (each-in s k (pairsOf k (h .place)) (h .first) (h .first-in) (each-in s (seconds (h .place) k) (λ b. stepOf (h .place) (h .first) b ∷ []) (h .second) (h .second-in) (inl (h .is)))))
 
--- ---- any fault step
-
-pub record Good (g : Automaton) (s : FaultStep) : Type 0 where
-  pub sent-trace : Trace g (s .sent)
-  pub received-trace : Trace g (s .received)
-  pub covers : 1 ≤ length (s .sent)
-  pub short : length (s .sent) ≤ 2
-
-step-good : (g : Automaton) (c a b : ℕ) → a < g .symbols → b < seconds c (g .symbols) → Good g (stepOf c a b)
-unfolding Trace
-step-good g zero a b la lb = record { sent-trace = (la, tt); received-trace = tt; covers = le-refl 1; short = omega arith }
-step-good g (suc zero) a b la lb = record { sent-trace = (la, tt); received-trace = (lb, tt); covers = le-refl 1; short = omega arith }
-step-good g (suc (suc zero)) a b la lb = record { sent-trace = (la, tt); received-trace = (la, (la, tt)); covers = le-refl 1; short = omega arith }
-step-good g (suc (suc (suc c))) a b la lb = record { sent-trace = (la, (lb, tt)); received-trace = (lb, (la, tt)); covers = omega arith; short = le-refl 2 }
-
-pub steps-good : (g : Automaton) (set : ℕ) (s : FaultStep) → In s (steps set (g .symbols)) → Good g s
-steps-good g set s i =
-    let h = steps-held set (g .symbols) s i in
-    subst (Good g) (sym (h .is)) (step-good g (h .place) (h .first) (h .second) (h .first-in) (h .second-in))
-
--- a set without repetition delivers no more than it covers
-pub steps-shrink : (set k : ℕ) → holds set repetition ≡ false → (s : FaultStep) → In s (steps set k) → length (s .received) ≤ length (s .sent)
-steps-shrink set k without s i =
-    let h = steps-held set k s i in
-    subst (λ (t : FaultStep). length (t .received) ≤ length (t .sent)) (sym (h .is)) (go (h .place) (h .held) (h .first) (h .second))
-  where
-    go : (c : ℕ) → holds set c ≡ true → (a b : ℕ) → length (stepOf c a b .received) ≤ length (stepOf c a b .sent)
-    go zero e a b = omega arith
-    go (suc zero) e a b = le-refl 1
-    go (suc (suc zero)) e a b = absurd (clash e without)
-    go (suc (suc (suc c))) e a b = le-refl 2
-
--- a step of one set is a step of every set that has its kind
-other-set : (F G k : ℕ) (s : FaultStep) (h : Held F k s) → holds G (h .place) ≡ true → In s (steps G k)
-other-set F G k s h e =
-    held-steps G k s (record { place = h .place; first = h .first; second = h .second; place-in = h .place-in; held = e; first-in = h .first-in; second-in = h .second-in; is = h .is })
-
-wider : (F G k : ℕ) (s : FaultStep) → ((c : ℕ) → holds F c ≡ true → holds G c ≡ true) → In s (steps F k) → In s (steps G k)
-wider F G k s over i = (let h = steps-held F k s i in other-set F G k s h (over (h .place) (h .held)))
-
--- two sets together have the steps of either, and no other
-pub of-either : (F G k : ℕ) (s : FaultStep) → In s (steps (together F G) k) → In s (steps F k) ⊎ In s (steps G k)
-of-either F G k s i =
-    let h = steps-held (together F G) k s i in
-    ⊎-elim (λ e. inl (other-set (together F G) F k s h e)) (λ e. inr (other-set (together F G) G k s h e))
-    (or-cases (holds F (h .place)) (holds G (h .place)) (sym (bit-or F G (h .place)) ∙ h .held))
-
-pub first-of-two : (F G k : ℕ) (s : FaultStep) → In s (steps F k) → In s (steps (together F G) k)
-first-of-two F G k s = wider F (together F G) k s (λ c e. bit-or F G c ∙ or-left (holds F c) (holds G c) e)
-
-pub second-of-two : (F G k : ℕ) (s : FaultStep) → In s (steps G k) → In s (steps (together F G) k)
-second-of-two F G k s = wider G (together F G) k s (λ c e. bit-or F G c ∙ or-right (holds F c) (holds G c) e)
-
 -- ---- the written order
 
 kind-is : (c a b : ℕ) → c < kinds → stepOf c a b .kind ≡ 2 ^ c
@@ -159,3 +106,56 @@ steps-rise set k = rising-each StepFirst kinds (ofKind set k) (λ c _. one c (ho
     two c e l m true true x y i j = (let u = in-kind c x (omega arith) i in let v = in-kind e y m j in let r = pow-lt l in inl (omega (arith, u, v, r)))
     two c e l m true false x y i j = absurd j
     two c e l m false q x y i j = absurd i
+
+-- ---- any fault step
+
+pub record Good (g : Automaton) (s : FaultStep) : Type 0 where
+  pub sent-trace : Trace g (s .sent)
+  pub received-trace : Trace g (s .received)
+  pub covers : 1 ≤ length (s .sent)
+  pub short : length (s .sent) ≤ 2
+
+step-good : (g : Automaton) (c a b : ℕ) → a < g .symbols → b < seconds c (g .symbols) → Good g (stepOf c a b)
+unfolding Trace
+step-good g zero a b la lb = record { sent-trace = (la, tt); received-trace = tt; covers = le-refl 1; short = omega arith }
+step-good g (suc zero) a b la lb = record { sent-trace = (la, tt); received-trace = (lb, tt); covers = le-refl 1; short = omega arith }
+step-good g (suc (suc zero)) a b la lb = record { sent-trace = (la, tt); received-trace = (la, (la, tt)); covers = le-refl 1; short = omega arith }
+step-good g (suc (suc (suc c))) a b la lb = record { sent-trace = (la, (lb, tt)); received-trace = (lb, (la, tt)); covers = omega arith; short = le-refl 2 }
+
+pub steps-good : (g : Automaton) (set : ℕ) (s : FaultStep) → In s (steps set (g .symbols)) → Good g s
+steps-good g set s i =
+    let h = steps-held set (g .symbols) s i in
+    subst (Good g) (sym (h .is)) (step-good g (h .place) (h .first) (h .second) (h .first-in) (h .second-in))
+
+-- a set without repetition delivers no more than it covers
+pub steps-shrink : (set k : ℕ) → holds set repetition ≡ false → (s : FaultStep) → In s (steps set k) → length (s .received) ≤ length (s .sent)
+steps-shrink set k without s i =
+    let h = steps-held set k s i in
+    subst (λ (t : FaultStep). length (t .received) ≤ length (t .sent)) (sym (h .is)) (go (h .place) (h .held) (h .first) (h .second))
+  where
+    go : (c : ℕ) → holds set c ≡ true → (a b : ℕ) → length (stepOf c a b .received) ≤ length (stepOf c a b .sent)
+    go zero e a b = omega arith
+    go (suc zero) e a b = le-refl 1
+    go (suc (suc zero)) e a b = absurd (clash e without)
+    go (suc (suc (suc c))) e a b = le-refl 2
+
+-- a step of one set is a step of every set that has its kind
+other-set : (F G k : ℕ) (s : FaultStep) (h : Held F k s) → holds G (h .place) ≡ true → In s (steps G k)
+other-set F G k s h e =
+    held-steps G k s (record { place = h .place; first = h .first; second = h .second; place-in = h .place-in; held = e; first-in = h .first-in; second-in = h .second-in; is = h .is })
+
+wider : (F G k : ℕ) (s : FaultStep) → ((c : ℕ) → holds F c ≡ true → holds G c ≡ true) → In s (steps F k) → In s (steps G k)
+wider F G k s over i = (let h = steps-held F k s i in other-set F G k s h (over (h .place) (h .held)))
+
+-- two sets together have the steps of either, and no other
+pub of-either : (F G k : ℕ) (s : FaultStep) → In s (steps (together F G) k) → In s (steps F k) ⊎ In s (steps G k)
+of-either F G k s i =
+    let h = steps-held (together F G) k s i in
+    ⊎-elim (λ e. inl (other-set (together F G) F k s h e)) (λ e. inr (other-set (together F G) G k s h e))
+    (or-cases (holds F (h .place)) (holds G (h .place)) (sym (bit-or F G (h .place)) ∙ h .held))
+
+pub first-of-two : (F G k : ℕ) (s : FaultStep) → In s (steps F k) → In s (steps (together F G) k)
+first-of-two F G k s = wider F (together F G) k s (λ c e. bit-or F G c ∙ or-left (holds F c) (holds G c) e)
+
+pub second-of-two : (F G k : ℕ) (s : FaultStep) → In s (steps G k) → In s (steps (together F G) k)
+second-of-two F G k s = wider G (together F G) k s (λ c e. bit-or F G c ∙ or-right (holds F c) (holds G c) e)

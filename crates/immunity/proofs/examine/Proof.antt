@@ -1,4 +1,5 @@
 -- `examine` meets its contract.
+use native.Mathlib.Omega.{arith}
 use borrow.Author.Needs.{needs}
 use borrow.Author.Tests.{not-true, not-false}
 use Rattle.theory.specs.Monitor.{stateLimit}
@@ -23,7 +24,7 @@ returns-2 : tie.Need-returns-2
 returns-2 c =
     let s = c .before .before .before .before .before .before in
     let b = s .args .body .now in
-    examine-no-set stateLimit b (s .args .set) (s .args .domain) (s .args .area .now) (judged-accepted stateLimit b (c .before .before .before .judge .ensures) (c .before .enum-told .given .1)) (c .if1 .taken)
+    examine-no-set stateLimit b (s .args .set) (s .args .domain) (s .args .area .now) (judged-accepted stateLimit b (c .before .before .before .judge .ensures) (c .before .enum-told .given .1)) (omega (arith, c .if1 .taken))
 
 is-reading-requires : tie.Need-is-reading-requires
 is-reading-requires c κs = search needs
@@ -32,7 +33,7 @@ returns-3 : tie.Need-returns-3
 returns-3 c =
     let s = c .before .before .before .before .before .before .before .before in
     let b = s .args .body .now in
-    examine-no-reading stateLimit b (s .args .set) (s .args .domain) (s .args .area .now) (judged-accepted stateLimit b (c .before .before .before .before .before .judge .ensures) (c .before .before .before .enum-told .given .1)) (c .before .before .if1 .left) (c .before .is-reading .ensures) (not-true _ (c .if2 .taken))
+    examine-no-reading stateLimit b (s .args .set) (s .args .domain) (s .args .area .now) (judged-accepted stateLimit b (c .before .before .before .before .before .judge .ensures) (c .before .before .before .enum-told .given .1)) (omega (arith, c .before .before .if1 .left)) (c .before .is-reading .ensures) (not-true _ (c .if2 .taken))
 
 drawn-marks-requires : tie.Need-drawn-marks-requires
 drawn-marks-requires c κs = search needs
@@ -63,7 +64,7 @@ returns-4 c =
     let s = c .before .before .before .before .before .before .before .before .before .before .before .before .before .before .before .before .before in
     let b = s .args .body .now in
     let t = c .before .before .examine-table .ensures in
-    examine-found stateLimit b (s .args .set) (s .args .domain) (s .args .area .now) (judged-accepted stateLimit b (c .before .before .before .before .before .before .before .before .before .before .before .before .before .before .judge .ensures) (c .before .before .before .before .before .before .before .before .before .before .before .before .enum-told .given .1)) (c .before .before .before .before .before .before .before .before .before .before .before .if1 .left) (c .before .before .before .before .before .before .before .before .before .before .is-reading .ensures) _ (not-false _ (c .before .before .before .before .before .before .before .before .before .if2 .left))
+    examine-found stateLimit b (s .args .set) (s .args .domain) (s .args .area .now) (judged-accepted stateLimit b (c .before .before .before .before .before .before .before .before .before .before .before .before .before .before .judge .ensures) (c .before .before .before .before .before .before .before .before .before .before .before .before .enum-told .given .1)) (omega (arith, c .before .before .before .before .before .before .before .before .before .before .before .if1 .left)) (c .before .before .before .before .before .before .before .before .before .before .is-reading .ensures) _ (not-false _ (c .before .before .before .before .before .before .before .before .before .if2 .left))
     (monitor-lent b (c .before .before .before .before .before .before .byte-at .ensures .0) (c .before .before .before .before .before .byte-at2 .ensures .0) (c .before .before .before .before .byte-at3 .ensures .0) (c .before .before .before .before .before .before .before .before .drawn-marks .ensures) (c .before .before .before .before .before .before .before .next-states .ensures)) (t .0) (t .1)
 
 pub examine-spec : {M : Type 1} → statement M
