@@ -25,12 +25,6 @@ use Rattle.faults.specs.Steps.{stepFor, Ranged, plus, costOf, Best, Chea
 plus-most : (l e : ℕ) → plus l e ≤ never
 plus-most l e = omega arith
 
-pub plus-low : (l e : ℕ) → l + e < never → l + e ≡ plus l e
-plus-low l e h = omega arith
-
-pub plus-high : (l e : ℕ) → never ≤ l + e → never ≡ plus l e
-plus-high l e h = omega arith
-
 -- by what the calls answer: the states x and y after the step, the symbols l that it covers, the entry e
 pub cost-is : (g : Automaton) (d : List ℕ) (p : ℕ) (s : FaultStep) {x y l e : ℕ}
     → x ≡ run g p (s .sent) → y ≡ run g p (s .received) → l ≡ length (s .sent) → e ≡ entry d x y → plus l e ≡ costOf g d p s

@@ -170,7 +170,7 @@ pub fn write_symbols(symbols: Symbols, area: &mut [u8], at: usize)
     area[at + 1] = symbols.second as u8;
 }
 
-// The cost of a fault at p, or NEVER where the sum would reach it.
+// The cost of a fault at p: no more than NEVER.
 fn cost_of(
     square: &[u16; SQUARE_SIZE],
     nexts: &[u8],
@@ -184,11 +184,7 @@ fn cost_of(
 {
     let x = after(nexts, n, k, p, fault.sent);
     let y = after(nexts, n, k, p, fault.received);
-    let cost = fault.sent.count + pairs::entry_at(square, x, y);
-    if cost < NEVER {
-        return cost;
-    }
-    NEVER
+    monitor::least_of(fault.sent.count + pairs::entry_at(square, x, y), NEVER)
 }
 
 // The cheaper of two choices, the first where they cost the same.

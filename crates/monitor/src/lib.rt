@@ -89,7 +89,8 @@ pub fn byte_at(body: &[u8], i: usize) -> usize
     0
 }
 
-fn least(a: usize, b: usize) -> usize
+// The smaller of two numbers.
+pub fn least_of(a: usize, b: usize) -> usize
     ensures { λ r. ⌜ r ≡ min a b ⌝ }
 {
     if a < b { a } else { b }
@@ -99,8 +100,8 @@ fn least(a: usize, b: usize) -> usize
 pub fn drawn_marks(body: &[u8]) -> &[u8]
     ensures { λ r. ⌜ now r ≡ drawnMarks (now (body .entry)) ⌝ }
 {
-    let from = least(3, body.len());
-    let to = least(3 + byte_at(body, 0), body.len());
+    let from = least_of(3, body.len());
+    let to = least_of(3 + byte_at(body, 0), body.len());
     &body[from..to]
 }
 
@@ -108,7 +109,7 @@ pub fn drawn_marks(body: &[u8]) -> &[u8]
 pub fn next_states(body: &[u8]) -> &[u8]
     ensures { λ r. ⌜ now r ≡ nexts (now (body .entry)) ⌝ }
 {
-    let from = least(3 + byte_at(body, 0), body.len());
+    let from = least_of(3 + byte_at(body, 0), body.len());
     &body[from..]
 }
 

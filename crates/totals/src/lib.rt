@@ -3,7 +3,7 @@ use pairs::NEVER;
 use theory::STATE_LIMIT;
 ghost use mathlib.Core.Path.{_≡_};
 ghost use mathlib.Core.Bool.{cond};
-ghost use Prim.Native.Nat.{_+_, _≤_, _<_, min};
+ghost use Prim.Native.Nat.{_+_, _≤_, _<_};
 ghost use lib.ListN.{length, getD, set};
 ghost use lib.Seq.{sets};
 ghost use Rattle.theory.specs.Automaton.{run};
@@ -18,15 +18,6 @@ pub struct Approach {
     pub count: usize,
 }
 
-fn least_of(a: usize, b: usize) -> usize
-    ensures { λ r. ⌜ r ≡ min a b ⌝ }
-{
-    if a < b {
-        return a;
-    }
-    b
-}
-
 // The least total of the states after p.
 fn least_after(totals: &[usize; STATE_LIMIT], nexts: &[u8], n: usize, k: usize, p: usize) -> usize
     requires { ⌜ Rows stateLimit n k (now nexts) × (p < n) ⌝ }
@@ -36,7 +27,7 @@ fn least_after(totals: &[usize; STATE_LIMIT], nexts: &[u8], n: usize, k: usize, 
     let mut a = 0;
     while a < k {
         let x = monitor::successor(nexts, n, k, p, a);
-        least = least_of(totals[x], least);
+        least = monitor::least_of(totals[x], least);
         a += 1;
     }
     least

@@ -7,11 +7,11 @@ use Rattle.monitor.proofs.next_states.Tie as tie
 byte-at-requires : tie.Need-byte-at-requires
 byte-at-requires c κs = search needs
 
-add-least : tie.Need-add-least
-add-least c = search needs
+add-least-of : tie.Need-add-least-of
+add-least-of c = search needs
 
-least-requires : tie.Need-least-requires
-least-requires c κs = search needs
+least-of-requires : tie.Need-least-of-requires
+least-of-requires c κs = search needs
 
 sub-result : tie.Need-sub-result
 sub-result c = search needs
@@ -23,15 +23,15 @@ part-result-end : tie.Need-part-result-end
 part-result-end c = search needs
 
 returns : tie.Need-returns
-returns c = nexts-lent (c .before .before .before .before .args .body .now) (c .before .before .byte-at .ensures .0) (c .before .least .ensures)
+returns c = nexts-lent (c .before .before .before .before .args .body .now) (c .before .before .byte-at .ensures .0) (c .before .least-of .ensures)
 
 pub next-states-spec : {M : Type 1} → statement M
 next-states-spec =
     tie.close
     (tie.spec
     byte-at-requires
-    add-least
-    least-requires
+    add-least-of
+    least-of-requires
     sub-result
     part-result-start
     part-result-end
