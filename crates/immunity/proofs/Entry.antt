@@ -17,7 +17,7 @@ use Rattle.monitor.specs.declared.Judgement.the-variants.{Refused}
 use Rattle.monitor.specs.Format.{monitorOf}
 use Rattle.monitor.specs.Questions.{judgeAnswer, judgement}
 use Rattle.monitor.proofs.Accepted.{judged-refused, accepted-asks}
-use Rattle.immunity.specs.Findings.{witnessTrace, roomQuestions, faultQuestions, tableFigures, faultAnswer, faultTrace, cardFigures, cardAnswer}
+use Rattle.immunity.specs.Findings.{witnessTrace, roomQuestions, faultQuestions, tableFigures, faultAnswer, faultTrace, CardAnswer, cardRefused, cardFigures, cardAfter, cardAnswer}
 
 -- an answer and what the area holds after it, as `examine` promises them
 abbrev pub Promised : ℕ → List ℕ → ℕ → ℕ → List ℕ → Answer → List ℕ → Type 0
@@ -52,10 +52,10 @@ module _ (limit : ℕ) (b : List ℕ) (set d : ℕ) (area : List ℕ) where
           (whole, eb ∙ ap (λ (x : Monitor). written answer (witnessTrace (firstWitness x d set)) area) em ∙ ap (λ (a : Answer). written a (faultTrace b set d) area) whole)
 
 module _ (limit : ℕ) (b : List ℕ) where
-  pub card-judged : {r : Judgement} {x : Refusal} → judgement r ≡ judgeAnswer limit b → r ≡ Refused x → refused (x .number) (x .place) ≡ cardAnswer limit b
+  pub card-judged : {r : Judgement} {x : Refusal} → judgement r ≡ judgeAnswer limit b → r ≡ Refused x → cardRefused (x .number) (x .place) ≡ cardAnswer limit b
   unfolding cardAnswer
-  card-judged e h = sym (judged-refused limit b e [] (cardFigures (monitorOf b)) h)
+  card-judged e h = ap (λ (a : Answer). cardAfter a (monitorOf b)) (sym (ap judgement h) ∙ e)
 
-  pub card-shown : judgeAnswer limit b ≡ answered [] → (m : Monitor) {values : List ℕ} → m ≡ monitorOf b → values ≡ cardFigures m → answered values ≡ cardAnswer limit b
+  pub card-shown : judgeAnswer limit b ≡ answered [] → (m : Monitor) {shows : CardAnswer} → m ≡ monitorOf b → shows ≡ cardFigures m → shows ≡ cardAnswer limit b
   unfolding cardAnswer
-  card-shown e m em ev = ap answered (ev ∙ ap cardFigures em) ∙ sym (accepted-asks limit b [] (cardFigures (monitorOf b)) e)
+  card-shown e m em es = es ∙ ap cardFigures em ∙ ap (λ (a : Answer). cardAfter a (monitorOf b)) (sym e)

@@ -1,7 +1,8 @@
 pub mod Search
 pub mod Made
 pub mod Answers
+pub mod Room
 pub mod Tables
-pub mod Columns
+pub mod Column
 pub mod Entry
 pub mod DemandThree

@@ -1,8 +1,8 @@
 -- From the outputs that the search goes by to the readings of the table.
 use mathlib.Core.Path.{_≡_, refl, ap, _∙_}
-use mathlib.Core.List.{List, [], _∷_, _++_}
+use mathlib.Core.List.{List, _++_}
 use mathlib.Core.Option.{Option, none, some}
-use Prim.Native.Nat.{ℕ, _-_, _<_}
+use Prim.Native.Nat.{ℕ, _-_, _≤_, _<_}
 use native.Mathlib.Omega.{arith}
 use lib.Bits.{bitOr}
 use lib.ListN.{getD, take}
@@ -11,17 +11,18 @@ use Rattle.theory.specs.Below.{values}
 use Rattle.theory.specs.Automaton.{run}
 use Rattle.theory.specs.Monitor.{Monitor, reading, monitorability}
 use Rattle.theory.specs.Faults.{steps}
-use Rattle.theory.specs.Answer.{Answer, asks, written}
+use Rattle.theory.specs.Answer.{Answer, answered, asks, written}
 use Rattle.theory.specs.Series.{Series, sentTrace, receivedTrace}
 use Rattle.theory.specs.Distance.{differ, faultsOf}
-use Rattle.theory.specs.Computed.{firstHarmful, firstWitness, extentOf, distance}
+use Rattle.theory.specs.Computed.{horizon, firstHarmful, firstWitness}
 use Rattle.theory.proofs.Values.{getD-filled}
 use Rattle.theory.proofs.Reach.{run-in}
 use Rattle.theory.proofs.Faults.{steps-good, steps-rise}
 use Rattle.theory.proofs.Witness.{harmful-same, first-harms, sent-trace, received-trace}
 use Rattle.monitor.specs.Format.{Table, automatonOf, tableOf}
 use Rattle.pairs.specs.Square.{differing}
-use Rattle.immunity.specs.Findings.{witnessFigures, witnessTrace, roomQuestions, tableFigures, column, cardFigures}
+use Rattle.immunity.specs.Findings.{witnessFigures, witnessTrace, roomQuestions, tableFigures, answerOf, shown, cardFigures}
+use Rattle.immunity.proofs.Room.{room-enough}
 
 -- the first n of a list that was filled with values
 pub filled-read : (n : ℕ) (f : ℕ → ℕ) (rest : List ℕ) {l : List ℕ} → l ≡ values n f ++ rest → (q : ℕ) → q < n → getD (take (n - 0) l) q 0 ≡ f q
@@ -69,17 +70,17 @@ module _ {limit n k start : ℕ} {vs ts : List ℕ} (t : Table limit n k start v
   unfolding reading
   marks-read q l = refl
 
-  column-is : (set : ℕ) {r : ℕ} → r ≡ column (extentOf (firstHarmful (automatonOf n k ts) (differing vs) (steps set k) start)) → r ≡ column (distance (tableOf n k start vs ts) 3 set)
-  column-is set e = e ∙ ap (λ (o : Option Series). column (extentOf o)) (first-same t 3 set vs marks-read)
+  abbrev table : Monitor
+  table = tableOf n k start vs ts
 
-  -- a column of the card for each fault alone
-  abbrev pub columnOf : ℕ → ℕ
-  columnOf set = column (extentOf (firstHarmful (automatonOf n k ts) (differing vs) (steps set k) start))
+  -- the finding for one fault set by marks, from an area that every witness fits
+  pub marks-answer : (set room : ℕ) → horizon limit ≤ room → {r : Answer} → r ≡ answerOf n k vs ts set start room → r ≡ answered (tableFigures table 3 set)
+  marks-answer set room large e = table-answer t 3 set vs marks-read room e ∙ room-enough limit table (t .well-formed) 3 set room large (tableFigures table 3 set)
 
   -- a set built by adding one kind to the empty set
-  pub alone : (kind : ℕ) {e w r : ℕ} → e ≡ 0 → w ≡ bitOr e kind → r ≡ columnOf w → r ≡ columnOf kind
+  pub alone : (kind : ℕ) {e w : ℕ} {r : Answer} → e ≡ 0 → w ≡ bitOr e kind → r ≡ answered (tableFigures table 3 w) → r ≡ answered (tableFigures table 3 kind)
   alone kind ee ew er = er ∙ rw (ew, ee)
 
-  pub card-is : {y a b c d : ℕ} → y ≡ monitorability (tableOf n k start vs ts) → a ≡ columnOf 1 → b ≡ columnOf 2 → c ≡ columnOf 4 → d ≡ columnOf 8
-      → _≡_ {A = List ℕ} (n ∷ y ∷ a ∷ b ∷ c ∷ d ∷ []) (cardFigures (tableOf n k start vs ts))
-  card-is ey ea eb ec ed = rw (ey, column-is 1 ea, column-is 2 eb, column-is 4 ec, column-is 8 ed)
+  pub card-is : {y : ℕ} {a b c d : Answer} → y ≡ monitorability table → a ≡ answered (tableFigures table 3 1) → b ≡ answered (tableFigures table 3 2) → c ≡ answered (tableFigures table 3 4) → d ≡ answered (tableFigures table 3 8)
+      → shown n y a b c d ≡ cardFigures table
+  card-is ey ea eb ec ed = rw (ey, ea, eb, ec, ed)

@@ -8,10 +8,9 @@ use Rattle.theory.specs.Automaton.{Automaton, run}
 use Rattle.theory.specs.Monitor.{Monitor, reading, monitorability}
 use Rattle.theory.specs.Faults.{steps}
 use Rattle.theory.specs.Series.{Series, sentTrace, receivedTrace}
-use Rattle.theory.specs.Extent.{Extent, number, missing}
-use Rattle.theory.specs.Computed.{firstHarmful, firstWitness, distance}
+use Rattle.theory.specs.Computed.{firstHarmful, firstWitness}
 use Rattle.monitor.specs.Format.{automatonOf, monitorOf}
-use Rattle.monitor.specs.Questions.{tableQuestions, question9, question10, question13}
+use Rattle.monitor.specs.Questions.{tableQuestions, judgeAnswer, question9, question10, question13}
 use Rattle.pairs.specs.Square.{differing}
 use Rattle.immunity.specs.declared.Witness.{Witness}
 use Rattle.immunity.specs.declared.Finding.{Finding}
@@ -75,24 +74,29 @@ answerOf n k outs ts set start room = asks (roomQuestions (firstOf n k outs ts s
 
 -- ---- the card
 
--- a distance in a column: 0 where it is missing (no distance is 0: `distance-positive` in theory/proofs/Distance.antt)
-abbrev pub column : Extent → ℕ
-column missing = 0
-column (number l) = l
+-- the answer of a card: the number and place of a refusal; or n, the monitorability, and an answer for each of loss, corruption, repeat and swap
+pub data CardAnswer : Type 0 where
+  cardRefused : ℕ → ℕ → CardAnswer
+  shown : ℕ → ℕ → Answer → Answer → Answer → Answer → CardAnswer
 
--- the card of a table: n, monitorability, and the distances of loss, corruption, repeat and swap under reading 3
-abbrev pub cardFigures : Monitor → List ℕ
-cardFigures m = m .automaton .states ∷ monitorability m ∷ column (distance m 3 1) ∷ column (distance m 3 2) ∷ column (distance m 3 4) ∷ column (distance m 3 8) ∷ []
+-- the card of a table: n, monitorability, and what the fault question of each fault alone answers under reading 3
+abbrev pub cardFigures : Monitor → CardAnswer
+cardFigures m = shown (m .automaton .states) (monitorability m) (answered (tableFigures m 3 1)) (answered (tableFigures m 3 2)) (answered (tableFigures m 3 4)) (answered (tableFigures m 3 8))
+
+-- a table that is refused has no card
+abbrev pub cardAfter : Answer → Monitor → CardAnswer
+cardAfter (refused number place) m = cardRefused number place
+cardAfter (answered values) m = cardFigures m
 
 -- a card asks 1 to 8
-unfoldable pub cardAnswer : ℕ → List ℕ → Answer
-cardAnswer limit b = asks (tableQuestions limit b) (cardFigures (monitorOf b))
+unfoldable pub cardAnswer : ℕ → List ℕ → CardAnswer
+cardAnswer limit b = cardAfter (judgeAnswer limit b) (monitorOf b)
 
 -- the values of a card
-abbrev pub cardValues : LinkCard → List ℕ
-cardValues c = c .states ∷ c .monitorability ∷ c .loss ∷ c .corruption ∷ c .repeat ∷ c .swap ∷ []
+abbrev pub cardValues : LinkCard → CardAnswer
+cardValues c = shown (c .states) (c .monitorability) (finding (c .loss)) (finding (c .corruption)) (finding (c .repeat)) (finding (c .swap))
 
 -- 01's number and place of a refusal, or the values of a card
-abbrev pub carded : Carded → Answer
-carded (Carded.Card c) = answered (cardValues c)
-carded (Carded.Refused r) = refused (r .number) (r .place)
+abbrev pub carded : Carded → CardAnswer
+carded (Carded.Card c) = cardValues c
+carded (Carded.Refused r) = cardRefused (r .number) (r .place)

@@ -10,16 +10,16 @@ ghost use mathlib.Core.Option.{some};
 ghost use Prim.Native.Nat.{_≤_, _<_};
 ghost use lib.ListN.{length, getD};
 ghost use lib.Seq.{sets};
-ghost use Rattle.theory.specs.Answer.{asks, written};
+ghost use Rattle.theory.specs.Answer.{answered, asks, written};
 ghost use Rattle.theory.specs.Monitor.{stateLimit};
 ghost use Rattle.theory.specs.Faults.{steps};
 ghost use Rattle.theory.specs.Series.{Series, sentTrace};
-ghost use Rattle.theory.specs.Computed.{horizon, firstWitness, extentOf};
+ghost use Rattle.theory.specs.Computed.{horizon, firstWitness};
 ghost use Rattle.monitor.specs.Format.{Rows, Table, automatonOf, tableOf};
 ghost use Rattle.pairs.specs.Square.{never, Squared, differing};
 ghost use Rattle.faults.specs.Steps.{Costs};
 ghost use Rattle.totals.specs.Totals.{Relaxed};
-ghost use Rattle.immunity.specs.Findings.{seriesFigures, witnessTrace, roomQuestions, firstOf, answerOf, tableFigures, faultAnswer, faultTrace, witnessValues, finding, column, cardFigures, cardAnswer, cardValues, carded};
+ghost use Rattle.immunity.specs.Findings.{seriesFigures, witnessTrace, roomQuestions, firstOf, answerOf, tableFigures, faultAnswer, faultTrace, witnessValues, finding, cardFigures, cardAnswer, cardValues, carded};
 
 // A witness whose sent trace stands in the area: its length, the symbols before the fault, the fault's bit, the replacement, and what the sent and the received trace read.
 pub struct Witness {
@@ -37,14 +37,14 @@ pub enum Finding {
     Vulnerable(Witness),
 }
 
-// What the listing shows of a table. A distance is 0 where it is missing.
+// What the listing shows of a table: its states, its monitorability, and the finding for each fault alone, by marks.
 pub struct LinkCard {
     pub states: usize,
     pub monitorability: usize,
-    pub loss: usize,
-    pub corruption: usize,
-    pub repeat: usize,
-    pub swap: usize,
+    pub loss: Finding,
+    pub corruption: Finding,
+    pub repeat: Finding,
+    pub swap: Finding,
 }
 
 pub enum Carded {
@@ -197,8 +197,8 @@ fn scratch() -> [u8; ROOM]
     [0u8; ROOM]
 }
 
-// The distance under one fault set, 0 where it is missing.
-fn distance_in(
+// The finding for one fault set, by marks. The sent trace of a witness is not kept.
+fn finding_in(
     marks: &[u8],
     square: &[u16; SQUARE_SIZE],
     nexts: &[u8],
@@ -206,24 +206,12 @@ fn distance_in(
     k: usize,
     start: usize,
     set: FaultSet,
-) -> usize
-    requires { ⌜ Rows stateLimit n k (now nexts) × (length (now marks) ≡ n) × (start < n) × Squared (automatonOf n k (now nexts)) (differing (now marks)) (now square) ⌝ }
-    ensures { λ r. ⌜ r ≡ column (extentOf (firstOf n k (now (marks .entry)) (now (nexts .entry)) (set .bits) start)) ⌝ }
+) -> Finding
+    requires { ⌜ Table stateLimit n k start (now marks) (now nexts) × Squared (automatonOf n k (now nexts)) (differing (now marks)) (now square) ⌝ }
+    ensures { λ r. ⌜ finding r ≡ answered (tableFigures (tableOf n k start (now (marks .entry)) (now (nexts .entry))) 3 (set .bits)) ⌝ }
 {
     let mut area = scratch();
-    let Finding::Vulnerable(witness) = examine_set(
-        marks,
-        square,
-        nexts,
-        n,
-        k,
-        start,
-        set.bits,
-        &mut area,
-    ) else {
-        return 0;
-    };
-    witness.distance
+    examine_set(marks, square, nexts, n, k, start, set.bits, &mut area)
 }
 
 // The card of an accepted table. Its square is made once for all four faults.
@@ -231,51 +219,28 @@ fn card_of(marks: &[u8], nexts: &[u8], n: usize, k: usize, start: usize) -> Link
     requires { ⌜ Table stateLimit n k start (now marks) (now nexts) ⌝ }
     ensures { λ r. ⌜ cardValues r ≡ cardFigures (tableOf n k start (now (marks .entry)) (now (nexts .entry))) ⌝ }
 {
+    let monitorability = classes::monitorability_of(marks, nexts, n, k, start);
     let square = pairs::distances(nexts, n, k, marks);
     let none = FaultSet::empty();
+    let loss_alone = none.with(FaultSet::LOSS);
+    let corruption_alone = none.with(FaultSet::CORRUPTION);
+    let repeat_alone = none.with(FaultSet::REPEAT);
+    let swap_alone = none.with(FaultSet::SWAP);
+    let loss = finding_in(marks, &square, nexts, n, k, start, loss_alone);
+    let corruption = finding_in(marks, &square, nexts, n, k, start, corruption_alone);
+    let repeat = finding_in(marks, &square, nexts, n, k, start, repeat_alone);
+    let swap = finding_in(marks, &square, nexts, n, k, start, swap_alone);
     LinkCard {
         states: n,
-        monitorability: classes::monitorability_of(marks, nexts, n, k, start),
-        loss: distance_in(
-            marks,
-            &square,
-            nexts,
-            n,
-            k,
-            start,
-            none.with(FaultSet::LOSS),
-        ),
-        corruption: distance_in(
-            marks,
-            &square,
-            nexts,
-            n,
-            k,
-            start,
-            none.with(FaultSet::CORRUPTION),
-        ),
-        repeat: distance_in(
-            marks,
-            &square,
-            nexts,
-            n,
-            k,
-            start,
-            none.with(FaultSet::REPEAT),
-        ),
-        swap: distance_in(
-            marks,
-            &square,
-            nexts,
-            n,
-            k,
-            start,
-            none.with(FaultSet::SWAP),
-        ),
+        monitorability,
+        loss,
+        corruption,
+        repeat,
+        swap,
     }
 }
 
-// The card of a table: its states, its monitorability, and its distances under each fault alone, by marks.
+// The card of a table: its states, its monitorability, and the finding for each fault alone, by marks.
 pub fn card(body: &[u8]) -> Carded
     ensures { λ r. ⌜ carded r ≡ cardAnswer stateLimit (now (body .entry)) ⌝ }
 {

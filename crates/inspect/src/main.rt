@@ -1,6 +1,7 @@
 // Reads the body of one table from standard input. Prints its monitorability and the number of states reached, the class of each state, and the distance under each fault.
 use classes::Classification;
 use immunity::Carded;
+use immunity::Finding;
 
 // The number of a state and its class.
 fn state_line(q: usize, class: u8) {
@@ -26,9 +27,9 @@ fn filled_lines(area: &[u8], n: usize) {
 }
 
 // The word and the distance, `-` where it is missing.
-fn distance_line(word: &[u8], distance: usize) {
+fn distance_line(word: &[u8], found: Finding) {
     printing::text(word);
-    printing::column(distance);
+    printing::column(found);
     printing::text(b"\n");
 }
 
@@ -36,10 +37,14 @@ fn distance_lines(body: &[u8]) {
     let Carded::Card(card) = immunity::card(body) else {
         return;
     };
-    distance_line(b"loss", card.loss);
-    distance_line(b"corruption", card.corruption);
-    distance_line(b"repeat", card.repeat);
-    distance_line(b"swap", card.swap);
+    let loss = card.loss;
+    let corruption = card.corruption;
+    let repeat = card.repeat;
+    let swap = card.swap;
+    distance_line(b"loss", loss);
+    distance_line(b"corruption", corruption);
+    distance_line(b"repeat", repeat);
+    distance_line(b"swap", swap);
 }
 
 fn report(body: &[u8]) {

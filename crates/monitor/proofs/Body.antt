@@ -26,14 +26,14 @@ drop-least zero l = (let e : min 0 (length l) ≡ 0 = omega arith in ap (λ (n :
 drop-least (suc i) [] = drop-nil (min (suc i) 0)
 drop-least (suc i) (x ∷ l) = (let e : min (suc i) (suc (length l)) ≡ suc (min i (length l)) = omega arith in ap (λ (n : ℕ). drop n (x ∷ l)) e ∙ drop-least i l)
 
--- the part from the end of the head to the end of the marks, as far as the body goes
-pub marks-lent : (b : List ℕ) {n from to : ℕ} → n ≡ statesOf b → from ≡ min 3 (length b) → to ≡ min (3 + n) (length b) → take (to - from) (drop from b) ≡ drawnMarks b
-marks-lent b {n} {from} {to} e f t =
-    let size : to - from ≡ min (statesOf b) (length (drop 3 b)) = omega (arith, e, f, t, length-drop 3 b) in
-    ap (λ (i : ℕ). take (to - from) (drop i b)) f
-    ∙ ap (take (to - from)) (drop-least 3 b)
-    ∙ ap (λ (i : ℕ). take i (drop 3 b)) size
-    ∙ take-least (statesOf b) (drop 3 b)
+-- the part that `part` lends
+pub part-lent : (l : List ℕ) (from count : ℕ) {start size : ℕ} → start ≡ min from (length l) → size ≡ min count (length l - start) → take (start + size - start) (drop start l) ≡ take count (drop from l)
+part-lent l from count {start} {size} e f =
+    let long : start + size - start ≡ min count (length (drop from l)) = omega (arith, e, f, length-drop from l) in
+    ap (λ (i : ℕ). take (start + size - start) (drop i l)) e
+    ∙ ap (take (start + size - start)) (drop-least from l)
+    ∙ ap (λ (i : ℕ). take i (drop from l)) long
+    ∙ take-least count (drop from l)
 
 -- the part from there on
 pub nexts-lent : (b : List ℕ) {n from : ℕ} → n ≡ statesOf b → from ≡ min (3 + n) (length b) → take (length b - from) (drop from b) ≡ nexts b

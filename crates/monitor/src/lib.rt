@@ -4,7 +4,7 @@ use theory::SYMBOL_LIMIT;
 ghost use mathlib.Core.Path.{_≡_};
 ghost use mathlib.Core.List.{[]};
 ghost use Prim.Native.Nat.{_*_, _<_, min};
-ghost use lib.ListN.{length, getD};
+ghost use lib.ListN.{length, getD, take, drop};
 ghost use Rattle.theory.specs.Below.{first};
 ghost use Rattle.theory.specs.Monitor.{stateLimit};
 ghost use Rattle.theory.specs.Answer.{Answer, asks};
@@ -96,13 +96,20 @@ pub fn least_of(a: usize, b: usize) -> usize
     if a < b { a } else { b }
 }
 
+// The `count` bytes from a place on, as far as they are there.
+pub fn part(bytes: &[u8], from: usize, count: usize) -> &[u8]
+    ensures { λ r. ⌜ now r ≡ take count (drop from (now (bytes .entry))) ⌝ }
+{
+    let start = least_of(from, bytes.len());
+    let size = least_of(count, bytes.len() - start);
+    &bytes[start..start + size]
+}
+
 // The marks of a body as drawn, as far as it has them.
 pub fn drawn_marks(body: &[u8]) -> &[u8]
     ensures { λ r. ⌜ now r ≡ drawnMarks (now (body .entry)) ⌝ }
 {
-    let from = least_of(3, body.len());
-    let to = least_of(3 + byte_at(body, 0), body.len());
-    &body[from..to]
+    part(body, 3, byte_at(body, 0))
 }
 
 // The next states of a body: all that stands behind the marks.

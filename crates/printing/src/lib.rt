@@ -126,24 +126,28 @@ pub fn finding(answer: Finding) {
     }
 }
 
-// A distance after a space, `-` where it is missing.
-pub fn column(distance: usize) {
+// The distance that a finding tells, after a space; `-` where it is missing.
+pub fn column(answer: Finding) {
     text(b" ");
-    if distance == 0 {
+    let Finding::Vulnerable(w) = answer else {
         text(b"-");
         return;
-    }
-    number(distance);
+    };
+    number(w.distance);
 }
 
 fn link_card(card: LinkCard) {
     number(card.states);
     text(b" ");
     monitorability_word(card.monitorability);
-    column(card.loss);
-    column(card.corruption);
-    column(card.repeat);
-    column(card.swap);
+    let loss = card.loss;
+    let corruption = card.corruption;
+    let repeat = card.repeat;
+    let swap = card.swap;
+    column(loss);
+    column(corruption);
+    column(repeat);
+    column(swap);
 }
 
 pub fn carded(answer: Carded) {

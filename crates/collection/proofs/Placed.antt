@@ -1,0 +1,66 @@
+-- The bodies of an accepted collection lie in the file, one behind the other.
+use mathlib.Core.Path.{_≡_, sym, ap, _∙_}
+use mathlib.Core.Bool.{not}
+use mathlib.Core.List.{List, [], _∷_}
+use Prim.Native.Nat.{ℕ, zero, suc, _+_, _-_, _≤_, _<_, min, zero-le}
+use native.Mathlib.Nat.{le-trans, le-of-eq, le-add-right, zero-add}
+use native.Mathlib.Omega.{arith}
+use lib.ListN.{length, length-take, length-drop}
+use borrow.Author.Tests.{eqb-true, not-false}
+use Rattle.theory.specs.Answer.{answered, asks}
+use Rattle.theory.proofs.Below.{first-none}
+use Rattle.theory.proofs.Answer.{asks-yes}
+use Rattle.collection.proofs.Entries.{starts-later}
+use Rattle.collection.specs.Contents.{countOf, offsetOf, lengthOf, bodyOf, startOfBody, follows, passes, firstNo, question20, question21, question22, question23, question24, question25, collectionQuestions, collectionAnswer}
+
+-- what holds of entry i: its body starts where it has to, ends in the file, and is all there
+pub record Placed (file : List ℕ) (i : ℕ) : Type 0 where
+  pub starts : offsetOf file i ≡ startOfBody file i
+  pub inside : offsetOf file i + lengthOf file i ≤ length file
+  pub whole : length (bodyOf file i) ≡ lengthOf file i
+
+module _ (file : List ℕ) (accepted : collectionAnswer file ≡ answered (countOf file ∷ [])) where
+  values : asks (collectionQuestions file) (countOf file ∷ []) ≡ answered (countOf file ∷ [])
+  unfolding collectionAnswer
+  values = accepted
+
+  -- what questions 24 and 25 leave
+  record Ends : Type 0 where
+    four : firstNo file 24 (countOf file) ≡ countOf file
+    five : length file ≡ startOfBody file (countOf file)
+
+  ends : Ends
+  ends =
+      let v = countOf file ∷ [] in
+      let q₀ = asks-yes (question20 file) (question21 file ∷ question22 file ∷ question23 file ∷ question24 file ∷ question25 file ∷ []) v values in
+      let q₁ = asks-yes (question21 file) (question22 file ∷ question23 file ∷ question24 file ∷ question25 file ∷ []) v (q₀ .1) in
+      let q₂ = asks-yes (question22 file) (question23 file ∷ question24 file ∷ question25 file ∷ []) v (q₁ .1) in
+      let q₃ = asks-yes (question23 file) (question24 file ∷ question25 file ∷ []) v (q₂ .1) in
+      let q₄ = asks-yes (question24 file) (question25 file ∷ []) v (q₃ .1) in
+      let q₅ = asks-yes (question25 file) [] v (q₄ .1) in
+      record {
+        four = eqb-true (firstNo file 24 (countOf file)) (countOf file) (q₄ .0);
+        five = eqb-true (length file) (startOfBody file (countOf file)) (q₅ .0);
+      }
+
+  starts-at : (i : ℕ) → i < countOf file → offsetOf file i ≡ startOfBody file i
+  starts-at i h = eqb-true (offsetOf file i) (startOfBody file i) (not-false (follows file i) (first-none (λ j. not (passes file 24 j)) 0 (countOf file) i (ends .four ∙ sym (zero-add (countOf file))) zero-le (omega (arith, h))))
+
+  -- where body i ends, body i + 1 has to start
+  next-start : (i : ℕ) → startOfBody file (i + 1) ≡ offsetOf file i + lengthOf file i
+  next-start i =
+      let e : i + 1 - 1 ≡ i = omega arith in
+      sym (starts-later file (i + 1) (λ (q : _≡_ {A = ℕ} (i + 1) 0). omega arith) (ap (offsetOf file) (sym e)) (ap (lengthOf file) (sym e)))
+
+  -- no start lies behind the end of the file
+  before-end : (d i : ℕ) → d + i ≡ countOf file → startOfBody file i ≤ length file
+  before-end zero i e = le-of-eq (ap (startOfBody file) (sym (zero-add i) ∙ e) ∙ sym (ends .five))
+  before-end (suc d) i e = le-trans (le-of-eq (sym (starts-at i (omega (arith, e))))) (le-trans (le-add-right _ _) (le-trans (le-of-eq (sym (next-start i))) (before-end d (i + 1) (omega (arith, e)))))
+
+  pub bodies-placed : (i : ℕ) → i < countOf file → Placed file i
+  bodies-placed i h =
+      let t : offsetOf file i + lengthOf file i ≤ length file = le-trans (le-of-eq (sym (next-start i))) (before-end (countOf file - (i + 1)) (i + 1) (omega (arith, h))) in
+      record { starts = starts-at i h; inside = t; whole = simp (length-take, length-drop) (min-left (offsetOf file i) (lengthOf file i) (length file) t) }
+    where
+      min-left : (a b c : ℕ) → a + b ≤ c → min b (c - a) ≡ b
+      min-left a b c l = omega (arith, l)

@@ -1,0 +1,50 @@
+-- `first_no` meets its contract.
+use mathlib.Core.Bool.{not}
+use Prim.Native.Nat.{_-_}
+use native.Mathlib.Omega.{arith}
+use borrow.Author.Needs.{needs}
+use Rattle.theory.proofs.Scan.{Passed, scan-begins, scan-goes-on, scan-finds, scan-ends}
+use Rattle.collection.specs.Contents.{passes}
+use Rattle.collection.proofs.first_no.Statement.{statement}
+use Rattle.collection.proofs.first_no.Tie as tie
+
+abbrev Inv-loop : tie.InvT-loop
+Inv-loop file question count i₀ i = Passed (λ j. not (passes file question j)) 0 count i
+
+abbrev μ-loop : tie.MeasureT-loop
+μ-loop file question count i₀ i = count - i
+
+loop-holds : tie.Need-loop-holds Inv-loop μ-loop
+loop-holds c = scan-begins _ _ _
+
+passes-requires : tie.Need-passes-requires Inv-loop μ-loop
+passes-requires c κs = search needs
+
+returns : tie.Need-returns Inv-loop μ-loop
+returns c = scan-finds (c .before .before .before .loop .inv) (rw (← c .before .passes .ensures, c .if1 .taken))
+
+add-i : tie.Need-add-i Inv-loop μ-loop
+add-i c = search needs
+
+loop-less : tie.Need-loop-less Inv-loop μ-loop
+loop-less c = search needs
+
+loop-again : tie.Need-loop-again Inv-loop μ-loop
+loop-again c = scan-goes-on (c .before .before .before .loop .inv) (omega arith) (rw (← c .before .passes .ensures, c .if1 .left))
+
+returns-2 : tie.Need-returns-2 Inv-loop μ-loop
+returns-2 c = scan-ends (c .before .loop .inv) (omega arith)
+
+pub first-no-spec : {M : Type 1} → statement M
+first-no-spec =
+    tie.close
+    (tie.spec
+    Inv-loop
+    μ-loop
+    loop-holds
+    passes-requires
+    returns
+    add-i
+    loop-less
+    loop-again
+    returns-2)

@@ -1,0 +1,25 @@
+-- `rises` meets its contract.
+use Rattle.collection.proofs.Entries.{rises-first, rises-later}
+use borrow.Author.Needs.{needs}
+use Rattle.collection.proofs.rises.Statement.{statement}
+use Rattle.collection.proofs.rises.Tie as tie
+
+returns : tie.Need-returns
+returns c = rises-first (c .before .before .args .file .now) (c .before .before .args .i) (c .if1 .taken)
+
+sub-rule-number : tie.Need-sub-rule-number
+sub-rule-number c = search needs
+
+rule-number-requires : tie.Need-rule-number-requires
+rule-number-requires c κs = search needs
+
+rule-number-requires-2 : tie.Need-rule-number-requires-2
+rule-number-requires-2 c κs = search needs
+
+returns-2 : tie.Need-returns-2
+returns-2 c = rises-later (c .before .before .before .before .args .file .now) (c .before .before .before .before .args .i) (c .before .before .if1 .left) (c .before .rule-number .ensures .0) (c .rule-number2 .ensures .0)
+
+pub rises-spec : {M : Type 1} → statement M
+rises-spec =
+    tie.close
+    (tie.spec returns sub-rule-number rule-number-requires rule-number-requires-2 returns-2)

@@ -1,0 +1,20 @@
+-- `rule_number` meets its contract.
+use mathlib.Core.Path.{ap, _∙_}
+use mathlib.Core.List.{List}
+use Prim.Native.Nat.{ℕ}
+use Rattle.collection.specs.Contents.{numberAt}
+use borrow.Author.Needs.{needs}
+use Rattle.collection.proofs.rule_number.Statement.{statement}
+use Rattle.collection.proofs.rule_number.Tie as tie
+
+entry-requires : tie.Need-entry-requires
+entry-requires c κs = search needs
+
+pair-at-requires : tie.Need-pair-at-requires
+pair-at-requires c κs = search needs
+
+returns : tie.Need-returns
+returns c = (c .pair-at .ensures .0 ∙ ap (λ (l : List ℕ). numberAt 2 l 6) (c .before .entry .ensures), c .pair-at .ensures .1)
+
+pub rule-number-spec : {M : Type 1} → statement M
+rule-number-spec = tie.close (tie.spec entry-requires pair-at-requires returns)

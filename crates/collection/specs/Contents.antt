@@ -1,0 +1,98 @@
+-- A collection file and the questions asked of it. A file is any list of numbers, whether or not they are bytes.
+use mathlib.Core.Bool.{Bool, cond, not, _||_}
+use mathlib.Core.List.{List, [], _∷_}
+use Prim.Native.Nat.{ℕ, zero, suc, _+_, _*_, _-_}
+use lib.ListN.{length, getD, take, drop}
+use lib.Dec.{eqb, leb, ltb}
+use Rattle.theory.specs.Below.{first}
+use Rattle.theory.specs.Answer.{Question, Answer, refused, answered, asks}
+use Rattle.monitor.specs.Questions.{ofEach}
+use Rattle.collection.specs.declared.Collected.{Collected}
+use Rattle.collection.specs.declared.Collected.the-variants.{Accepted, Refused}
+
+-- "All numbers are least byte first.": the number of `width` bytes from a place on; what is not there counts as 0
+abbrev pub numberAt : ℕ → List ℕ → ℕ → ℕ
+numberAt zero bytes at = 0
+numberAt (suc width) bytes at = getD bytes at 0 + 256 * numberAt width bytes (suc at)
+
+-- "a two-byte count c"
+abbrev pub countOf : List ℕ → ℕ
+countOf file = numberAt 2 file 0
+
+-- where the contents end: behind the count and "c entries of eight bytes"
+abbrev pub contentsEnd : List ℕ → ℕ
+contentsEnd file = 2 + 8 * countOf file
+
+-- the eight bytes of entry i; from c on there is none
+abbrev pub entryOf : List ℕ → ℕ → List ℕ
+entryOf file i = cond (ltb i (countOf file)) (take 8 (drop (2 + 8 * i) file)) []
+
+-- "body offset (four), body length (two), rule number (two)"
+abbrev pub offsetOf : List ℕ → ℕ → ℕ
+offsetOf file i = numberAt 4 (entryOf file i) 0
+
+abbrev pub lengthOf : List ℕ → ℕ → ℕ
+lengthOf file i = numberAt 2 (entryOf file i) 4
+
+abbrev pub ruleOf : List ℕ → ℕ → ℕ
+ruleOf file i = numberAt 2 (entryOf file i) 6
+
+-- the body of entry i, as far as the file has it
+abbrev pub bodyOf : List ℕ → ℕ → List ℕ
+bodyOf file i = take (lengthOf file i) (drop (offsetOf file i) file)
+
+-- where body i has to start: the first behind the contents, "each later one where the previous ends"; with i = c, where the file has to end
+abbrev pub startOfBody : List ℕ → ℕ → ℕ
+startOfBody file i = cond (eqb i 0) (contentsEnd file) (offsetOf file (i - 1) + lengthOf file (i - 1))
+
+-- "has it at least 2 bytes?"
+abbrev pub question20 : List ℕ → Question
+question20 file = record { yes = leb 2 (length file); number = 20; place = 0 }
+
+-- "is c at most 512?"
+abbrev pub question21 : List ℕ → Question
+question21 file = record { yes = leb (countOf file) 512; number = 21; place = 0 }
+
+-- "are all entries there?"
+abbrev pub question22 : List ℕ → Question
+question22 file = record { yes = leb (contentsEnd file) (length file); number = 22; place = 0 }
+
+-- the rule number of entry i is "greater than the one before"; the first has none before it
+abbrev pub rises : List ℕ → ℕ → Bool
+rises file i = eqb i 0 || ltb (ruleOf file (i - 1)) (ruleOf file i)
+
+-- body i starts where it has to
+abbrev pub follows : List ℕ → ℕ → Bool
+follows file i = eqb (offsetOf file i) (startOfBody file i)
+
+-- entry i answers question 23, or 24, with yes
+abbrev pub passes : List ℕ → ℕ → ℕ → Bool
+passes file question i = cond (eqb question 23) (rises file i) (follows file i)
+
+-- the first of c entries that does not, or c
+abbrev pub firstNo : List ℕ → ℕ → ℕ → ℕ
+firstNo file question c = first (λ i. not (passes file question i)) 0 c
+
+-- "is each rule number greater than the one before?", the place "is the entry, from 0"
+abbrev pub question23 : List ℕ → Question
+question23 file = ofEach 23 0 (firstNo file 23 (countOf file)) (countOf file)
+
+-- "does the first body start at 2 + 8 × c, and each later one where the previous ends?", the place likewise
+abbrev pub question24 : List ℕ → Question
+question24 file = ofEach 24 0 (firstNo file 24 (countOf file)) (countOf file)
+
+-- "does the last body (with c = 0, the count) end the file?"
+abbrev pub question25 : List ℕ → Question
+question25 file = record { yes = eqb (length file) (startOfBody file (countOf file)); number = 25; place = 0 }
+
+abbrev pub collectionQuestions : List ℕ → List Question
+collectionQuestions file = question20 file ∷ question21 file ∷ question22 file ∷ question23 file ∷ question24 file ∷ question25 file ∷ []
+
+-- "An accepted collection answers c; a body at fault does not refuse it."
+unfoldable pub collectionAnswer : List ℕ → Answer
+collectionAnswer file = asks (collectionQuestions file) (countOf file ∷ [])
+
+-- 01's number and place of a refusal, or the count
+abbrev pub collected : Collected → Answer
+collected (Accepted count) = answered (count ∷ [])
+collected (Refused r) = refused (r .number) (r .place)

@@ -1,0 +1,29 @@
+-- The area that the card lends itself holds every witness: question 13 is answered yes.
+use mathlib.Core.Path.{_≡_, refl}
+use mathlib.Core.List.{List}
+use mathlib.Core.Option.{Option, none, some}
+use Prim.Native.Nat.{ℕ, _*_, _≤_, zero-le}
+use native.Mathlib.Nat.{mul-le-mul}
+use native.Mathlib.Omega.{arith}
+use lib.ListN.{length}
+use borrow.Author.Tests.{le-leb}
+use Rattle.theory.specs.Monitor.{Monitor, WellFormed}
+use Rattle.theory.specs.Answer.{answered, asks}
+use Rattle.theory.specs.Series.{Series, sentTrace}
+use Rattle.theory.specs.Distance.{differ, faultsOf}
+use Rattle.theory.specs.Computed.{horizon, firstWitness}
+use Rattle.theory.proofs.Faults.{steps-good, steps-rise}
+use Rattle.theory.proofs.Witness.{first-harms}
+use Rattle.immunity.specs.Findings.{roomQuestions}
+
+pub room-enough : (limit : ℕ) (m : Monitor) → WellFormed limit m → (d set room : ℕ) → horizon limit ≤ room → (values : List ℕ) → asks (roomQuestions (firstWitness m d set) room) values ≡ answered values
+room-enough limit m w d set room large values = go (firstWitness m d set) refl
+  where
+    go : (o : Option Series) → firstWitness m d set ≡ o → asks (roomQuestions o room) values ≡ answered values
+    go none e = rw (le-leb 0 room zero-le)
+    go (some s) e =
+        let g = m .automaton in
+        let l = first-harms g (differ m d) (faultsOf m set) (w .closed) (steps-good g set) (m .start) (w .start-in) (steps-rise set (g .symbols)) s e .within in
+        let small = w .states-most in
+        let square : g .states * g .states ≤ limit * limit = mul-le-mul small small in
+        rw (le-leb (length (sentTrace s)) room (omega (arith, l, square, small, large)))

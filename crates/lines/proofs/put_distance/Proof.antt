@@ -1,0 +1,43 @@
+-- `put_distance` meets its contract.
+use native.Mathlib.Omega.{arith}
+use borrow.Author.Needs.{needs}
+use Rattle.lines.proofs.Words.{text-put, immune-word}
+use Rattle.lines.proofs.put_distance.Statement.{statement}
+use Rattle.lines.proofs.put_distance.Tie as tie
+
+enum-known-finding : tie.Need-enum-known-finding
+enum-known-finding c = search needs
+
+slice-aggregate-put : tie.Need-slice-aggregate-put
+slice-aggregate-put c = search needs
+
+put-requires : tie.Need-put-requires
+put-requires c κs = search needs
+
+same-length : tie.Need-same-length
+same-length c = search needs
+
+returns : tie.Need-returns
+returns c = text-put 21 (immune-word (c .before .before .before .before .before .before .before .args .finding) (c .before .before .before .before .before .match .keys2)) (omega arith) (c .before .before .put .ensures)
+
+put-figure-requires : tie.Need-put-figure-requires
+put-figure-requires c κs = search needs
+
+same-length-2 : tie.Need-same-length-2
+same-length-2 c = search needs
+
+returns-2 : tie.Need-returns-2
+returns-2 c = (let p = c .before .before .put-figure .ensures in (rw (c .before .before .before .before .before .finding .given .1) (p .0), p .1))
+
+pub put-distance-spec : {M : Type 1} → statement M
+put-distance-spec =
+    tie.close
+    (tie.spec
+    enum-known-finding
+    slice-aggregate-put
+    put-requires
+    same-length
+    returns
+    put-figure-requires
+    same-length-2
+    returns-2)
