@@ -16,7 +16,7 @@ def classes(b, room):
     if no:
         return refusal(no) + listed(area)
     area[: b[0]] = [state_class(b, q) for q in range(b[0])]
-    return f"{monitorability(b)} {len(reach(b, b[2]))}" + listed(area)
+    return f"monitorability {monitorability(b)} reached {len(reach(b, b[2]))}" + listed(area)
 
 
 def step(b, d, q, a):
@@ -27,7 +27,7 @@ def step(b, d, q, a):
     if no:
         return refusal(no)
     p = successors(b, q)[a]
-    return f"to {p} reads {reading(b, d, p)}"
+    return f"state {p} reading {reading(b, d, p)}"
 
 
 def trace(b, d, w):
@@ -39,7 +39,7 @@ def trace(b, d, w):
     q = b[2]
     for a in w:
         q = successors(b, q)[a]
-    return f"reads {reading(b, d, q)}"
+    return f"reading {reading(b, d, q)}"
 
 
 def fault_refusal(b, faults, d):

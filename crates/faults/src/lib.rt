@@ -107,7 +107,7 @@ fn seconds_of(rank: usize, k: usize) -> usize
 
 // The fault step of a kind, by its rank in the written order, at symbol a; b is the replacement or the neighbour.
 // Only this function and `seconds_of` say what a kind does.
-fn fault_of(rank: usize, a: usize, b: usize) -> Fault
+pub fn fault_of(rank: usize, a: usize, b: usize) -> Fault
     requires { ⌜ rank < kinds ⌝ }
     ensures step { λ r. ⌜ stepFor r ≡ stepOf rank a b ⌝ }
     ensures ranged { λ r. ⌜ ((k : ℕ) → a < k → b < k → Ranged k r) ⌝ }

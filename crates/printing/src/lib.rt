@@ -1,5 +1,6 @@
 // The words and lines that programs print. No contract can say what is written: programs compare their output with a stored one.
 use classes::Classification;
+use collection::Collected;
 use immunity::Carded;
 use immunity::Finding;
 use immunity::LinkCard;
@@ -67,6 +68,16 @@ pub fn judgement(answer: Judgement) {
     }
 }
 
+pub fn collected(answer: Collected) {
+    match answer {
+        Collected::Accepted { count } => {
+            text(b"accepted ");
+            number(count);
+        }
+        Collected::Refused(r) => refusal(r),
+    }
+}
+
 pub fn classification(answer: Classification) {
     match answer {
         Classification::Refused(r) => refusal(r),
@@ -74,8 +85,9 @@ pub fn classification(answer: Classification) {
             monitorability,
             reached,
         } => {
+            text(b"monitorability ");
             monitorability_word(monitorability);
-            text(b" ");
+            text(b" reached ");
             number(reached);
         }
     }
@@ -85,9 +97,9 @@ pub fn stepped(answer: Stepped) {
     match answer {
         Stepped::Refused(r) => refusal(r),
         Stepped::To { state, reading } => {
-            text(b"to ");
+            text(b"state ");
             number(state);
-            text(b" reads ");
+            text(b" reading ");
             number(reading);
         }
     }
@@ -97,7 +109,7 @@ pub fn traced(answer: Traced) {
     match answer {
         Traced::Refused(r) => refusal(r),
         Traced::Reads { reading } => {
-            text(b"reads ");
+            text(b"reading ");
             number(reading);
         }
     }

@@ -1,0 +1,89 @@
+-- `read_decimal` meets its contract: the bytes before `i` are digits, and `number` is what they stand for, up to the cap.
+use mathlib.Core.Path.{_≡_, sym, _∙_}
+use mathlib.Core.Bool.{true}
+use Prim.Native.Nat.{_-_}
+use native.Mathlib.Omega.{arith}
+use lib.ListN.{length, getD}
+use borrow.Author.Needs.{needs}
+use borrow.Author.Tests.{not-true, not-false}
+use Rattle.arguments.specs.Numbers.{isDigit}
+use Rattle.arguments.proofs.Reading.{Reads, reads-nothing, reads-empty, reads-digit, reads-other, reads-all, digit-least}
+use Rattle.arguments.proofs.read_decimal.Statement.{statement}
+use Rattle.arguments.proofs.read_decimal.Tie as tie
+
+abbrev Inv-loop : tie.InvT-loop
+Inv-loop text number₀ i₀ number i = Reads text i number
+
+abbrev μ-loop : tie.MeasureT-loop
+μ-loop text number₀ i₀ number i = length text - i
+
+returns : tie.Need-returns Inv-loop μ-loop
+returns c = reads-empty _ (c .if1 .taken)
+
+loop-holds : tie.Need-loop-holds Inv-loop μ-loop
+loop-holds c = reads-nothing _
+
+shared-slice-read-is-digit : tie.Need-shared-slice-read-is-digit Inv-loop μ-loop
+shared-slice-read-is-digit c = search needs
+
+is-digit-requires : tie.Need-is-digit-requires Inv-loop μ-loop
+is-digit-requires c κs = search needs
+
+returns-2 : tie.Need-returns-2 Inv-loop μ-loop
+returns-2 c = reads-other (c .before .before .before .before .loop .inv) (c .before .before .before .loop-test .taken) (sym (c .before .is-digit .ensures) ∙ not-true (c .before .is-digit .result) (c .if2 .taken))
+
+shared-slice-read-digit : tie.Need-shared-slice-read-digit Inv-loop μ-loop
+shared-slice-read-digit c = search needs
+
+-- past the test the byte is a digit
+digit : (c : tie.After-shared-slice-known3 Inv-loop μ-loop) → isDigit (getD (c .before .before .before .before .before .before .before .before .args .text .now) (c .before .before .before .before .before .loop .i) 0) ≡ true
+digit c = sym (c .before .before .is-digit .ensures) ∙ not-false (c .before .before .is-digit .result) (c .before .if2 .left)
+
+sub-digit : tie.Need-sub-digit Inv-loop μ-loop
+sub-digit c = digit-least _ (digit c)
+
+cast-digit : tie.Need-cast-digit Inv-loop μ-loop
+cast-digit c = omega (arith, c .shared-slice-known3 .given (c .before .before .before .before .before .loop .i))
+
+mul-least-of : tie.Need-mul-least-of Inv-loop μ-loop
+mul-least-of c = omega (arith, c .before .before .before .before .before .loop .inv .small)
+
+add-least-of : tie.Need-add-least-of Inv-loop μ-loop
+add-least-of c = omega (arith, c .before .before .before .before .before .loop .inv .small, c .shared-slice-known3 .given (c .before .before .before .before .before .loop .i))
+
+least-of-requires : tie.Need-least-of-requires Inv-loop μ-loop
+least-of-requires c κs = search needs
+
+add-i : tie.Need-add-i Inv-loop μ-loop
+add-i c = search needs
+
+loop-less : tie.Need-loop-less Inv-loop μ-loop
+loop-less c = search needs
+
+loop-again : tie.Need-loop-again Inv-loop μ-loop
+loop-again c = reads-digit (c .before .before .before .before .before .before .loop .inv) (c .before .before .before .before .before .loop-test .taken) (digit (c .before)) (c .least-of .ensures)
+
+returns-3 : tie.Need-returns-3 Inv-loop μ-loop
+returns-3 c = reads-all (c .before .loop .inv) (omega (arith, c .before .before .if1 .left)) (c .loop-test .left)
+
+pub read-decimal-spec : {M : Type 1} → statement M
+read-decimal-spec =
+    tie.close
+    (tie.spec
+    Inv-loop
+    μ-loop
+    returns
+    loop-holds
+    shared-slice-read-is-digit
+    is-digit-requires
+    returns-2
+    shared-slice-read-digit
+    sub-digit
+    cast-digit
+    mul-least-of
+    add-least-of
+    least-of-requires
+    add-i
+    loop-less
+    loop-again
+    returns-3)

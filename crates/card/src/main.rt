@@ -1,0 +1,135 @@
+// The cards of a collection's rules, for a person. Reads the collection from standard input; arguments name the rules, and with none all are shown.
+mod chosen;
+mod runs;
+mod states;
+mod traces;
+mod words;
+
+use classes::Classification;
+use collection::Collected;
+use faults::FaultSet;
+use immunity::Finding;
+use monitor::Refusal;
+use theory::SQUARE_SIZE;
+use theory::STATE_LIMIT;
+
+// Room for every witness, by the bound that is proved of them.
+const ROOM: usize = SQUARE_SIZE + STATE_LIMIT + 2;
+
+// The finding under one fault and one reading.
+fn fault(body: &[u8], set: FaultSet, domain: usize) {
+    words::fault_name(set.bits);
+    let mut area = [0u8; ROOM];
+    let finding = immunity::examine(body, set.bits, domain, &mut area);
+    let Finding::Vulnerable(witness) = finding else {
+        words::no_witness(finding);
+        return;
+    };
+    let distance = witness.distance;
+    if distance <= ROOM {
+        traces::draw(&area[0..distance], witness, domain);
+    }
+}
+
+fn faults_by(body: &[u8], domain: usize) {
+    let none = FaultSet::empty();
+    fault(body, none.with(FaultSet::LOSS), domain);
+    fault(body, none.with(FaultSet::CORRUPTION), domain);
+    fault(body, none.with(FaultSet::REPEAT), domain);
+    fault(body, none.with(FaultSet::SWAP), domain);
+}
+
+// The states, those reached, and the messages.
+fn sizes(body: &[u8], reached: usize) {
+    let n = monitor::byte_at(body, 0);
+    printing::text(b"  ");
+    words::counted(n, b" state");
+    printing::text(b", ");
+    if reached == n {
+        printing::text(b"all");
+    } else {
+        printing::number(reached);
+    }
+    printing::text(b" reached from start ");
+    printing::number(monitor::byte_at(body, 2));
+    printing::text(b", ");
+    words::counted(monitor::byte_at(body, 1), b" message");
+    printing::text(b"\n");
+}
+
+fn card(rule: usize, body: &[u8]) {
+    printing::text(b"rule ");
+    printing::number(rule);
+    printing::text(b": ");
+    let mut area = [0u8; STATE_LIMIT];
+    match classes::classify(body, &mut area) {
+        Classification::Refused(r) => words::body_refusal(r),
+        Classification::Classified {
+            monitorability,
+            reached,
+        } => {
+            words::monitorability(monitorability);
+            printing::text(b"\n");
+            sizes(body, reached);
+            let n = monitor::byte_at(body, 0);
+            if n <= STATE_LIMIT {
+                states::class_lines(&area[0..n]);
+            }
+            printing::text(b"by marks\n");
+            faults_by(body, 3);
+            printing::text(b"by classes\n");
+            faults_by(body, 6);
+        }
+    }
+}
+
+// The cards of the rules that are asked for, with a gap between any two. Answers whether there were any.
+fn cards(file: &[u8], count: usize) -> bool {
+    let mut shown = false;
+    let mut i = 0;
+    while i < count {
+        let rule = collection::rule_number(file, i);
+        if chosen::is_chosen(rule) {
+            if shown {
+                printing::text(b"\n");
+            }
+            card(rule, collection::body(file, i));
+            shown = true;
+        }
+        i += 1;
+    }
+    shown
+}
+
+fn report(file: &[u8]) {
+    match collection::judge(file) {
+        Collected::Refused(r) => words::collection_refusal(r),
+        Collected::Accepted { count } => {
+            if count == 0 {
+                printing::text(b"no rules in the collection\n");
+            }
+            let shown = cards(file, count);
+            chosen::missing_lines(file, count, shown);
+        }
+    }
+}
+
+fn main() {
+    if !chosen::all_numbers() {
+        io::write_all(
+            2,
+            b"usage: card [RULE..], with a collection on standard input\n",
+        );
+        return;
+    }
+    let mut input = [0u8; 65537];
+    let length = io::read_full(0, &mut input);
+    if 65536 < length {
+        words::collection_refusal(Refusal {
+            number: 26,
+            place: 0,
+        });
+        return;
+    }
+    report(&input[..length]);
+}

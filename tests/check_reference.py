@@ -1,0 +1,172 @@
+"""Checks reference.py against the paper's own facts and against a plain enumeration of traces."""
+
+import itertools
+import random
+
+import reference
+from reference import CORRUPTION, LOSS, REPEAT, SWAP, Refused, classes, fault, judge, listing, step, trace
+from tables import (A, B, C, D, E, G, H, LOWER_TRACE_HARMED, LOWER_TRACE_SWAPPED, THREE_IN_A_ROW, UGLY_FURTHER_ON,
+                    UGLY_UNREACHABLE, UNREACHABLE_HARM, collection, random_table)
+
+
+def answer(call, *arguments):
+    """The call's answer, or the refusal as (number, place)."""
+    try:
+        return call(*arguments)
+    except Refused as no:
+        return no.number, no.place
+
+
+checks = 0
+
+
+def check(got, wanted, about):
+    global checks
+    checks += 1
+    if got != wanted:
+        raise SystemExit(f"check_reference: {about}: wanted {wanted}, got {got}")
+
+
+def short(body, faults, reading=3):
+    """Distance, sent trace, messages before the fault, kind and replacement; None for immune."""
+    w = fault(body, faults, reading, 1000)
+    return w and (w.distance, w.sent, w.before, w.kind, w.replacement)
+
+
+def starred_facts():
+    for name, body, word in (("A", A, "pos"), ("B", B, "neg"), ("C", C, "both"), ("D", D, "none")):
+        check(reference.MONITORABILITY[classes(body, 64).monitorability], word, name)
+    for reading in (3, 6):
+        check(short(D, 15, reading), None, "D, all faults")
+        for faults in (REPEAT, SWAP, REPEAT | SWAP):
+            check(short(A, faults, reading), None, "A, repeat and swap")
+        check(short(A, CORRUPTION, reading), (1, [0], 0, CORRUPTION, 1), "A, corruption")
+        check(short(C, SWAP, reading)[:2], (2, [0, 2]), "C, swap")
+        check(short(E, REPEAT, reading)[:2], (1, [1]), "E, repeat")
+        check(short(E, SWAP, reading), (3, [0, 1, 1], 0, SWAP, 0), "E, swap")
+        check(short(H, LOSS, reading)[0], 1, "H, loss")
+    check((short(G, CORRUPTION, 3)[0], short(G, CORRUPTION, 6)[0]), (2, 1), "G, corruption")
+    check(classes(H, 2).classes[0], reference.POSITIVE, "H, state 0")
+
+
+def edges():
+    check(answer(judge, b"\2\2"), (1, 2), "2 bytes")
+    sizes = ((64, 1, None), (65, 1, (2, 0)), (1, 16, None), (1, 17, (3, 1)), (1, 0, (3, 1)), (0, 0, (2, 0)))
+    for n, k, wanted in sizes:
+        check(answer(judge, bytes([n, k, 0] + [0] * (n + n * k))), wanted, f"n = {n}, k = {k}")
+    check(fault(E, SWAP, 3, 3).distance, 3, "E, swap, area 3")
+    check(answer(fault, E, SWAP, 3, 2), (13, 0), "E, swap, area 2")
+    check([fault(body, 0, r, 0) for body in (A, B, C, D, E, G, H) for r in (3, 6)], [None] * 14, "the empty set")
+    check((trace(E, 3, []), trace(E, 6, []), trace(E, 3, [1, 1]), trace(E, 6, [1, 1])), (0, 2, 1, 0), "traces of E")
+    check(answer(reference.judge_collection, b"\0\0"), 0, "0 0")
+    # Orders of questions, areas, full-width numbers.
+    check(fault(D, 15, 3, 0), None, "immune needs no room")
+    check(answer(classes, A, 1), (13, 0), "classes of A, area 1")
+    check(classes(A, 2).classes, [2, 0], "classes of A")
+    for (reading, state, message), number in (((5, 9, 9), 10), ((3, 9, 9), 11), ((3, 0, 9), 12)):
+        check(answer(step, A, reading, state, message), (number, 0), "order in a step")
+    check(answer(step, A, 3, 256, 0), (11, 0), "state 256")
+    check(answer(fault, A, 257, 3, 9), (9, 0), "set 257")
+    check(answer(fault, A, 99, 5, 9), (9, 0), "9 before 10")
+    check(answer(trace, A, 5, [9]), (10, 0), "10 before 12")
+    check(answer(trace, A, 3, [0, 1, 2, 3]), (12, 2), "place of 12")
+
+
+def examples():
+    """The wrong turns, the order of series, and refusals of bodies."""
+    check(short(A, LOSS | CORRUPTION), (1, [1], 0, LOSS, 0), "A, set 3")
+    check(short(LOWER_TRACE_HARMED, CORRUPTION), (2, [0, 1], 0, CORRUPTION, 1), "series before traces, corruption")
+    check(short(LOWER_TRACE_SWAPPED, SWAP), (3, [0, 1, 0], 0, SWAP, 0), "series, swap")
+    check(short(E, LOSS), (2, [1, 1], 0, LOSS, 0), "E, loss")
+    check(short(A, LOSS), (1, [1], 0, LOSS, 0), "A, loss: received empty")
+    check(short(H, CORRUPTION), None, "H, corruption")
+    check(short(THREE_IN_A_ROW, REPEAT)[:2], (2, [1, 1]), "three 1s in a row, repeat")
+    check(short(UNREACHABLE_HARM, 15), None, "no fault at unreachable states")
+    check(classes(UGLY_FURTHER_ON, 3).monitorability, 3, "ugly further on")
+    check(classes(UGLY_UNREACHABLE, 2), (0, 1, [0, 5]), "an unreachable ugly state")
+    for body, wanted in (([3, 1, 0, 2, 1, 0, 2, 2, 0], (8, 6)), ([2, 2, 0, 0, 1, 0, 1, 0, 7], (7, 8)),
+                         ([2, 2, 0, 0, 1, 0, 1, 0, 1], (8, 7)), ([2, 2, 0, 0, 1, 0, 1, 1], (4, 8)),
+                         ([0, 0, 0], (2, 0)), ([0, 0], (1, 2))):
+        check(answer(judge, bytes(body)), wanted, body)
+
+
+def collections():
+    first = bytes.fromhex("0300 1A00000009000100 230000000C000200 2F00000009000300")
+    text = reference.HEADER + "1 2 pos 1 1 - -\n2 3 pos 2 2 1 3\n3 refused 6 4\n"
+    data = first + A + E + A[:4] + b"\3" + A[5:]
+    check((len(data), listing(data)), (56, text), "the paper's listing")
+    check(collection([(1, A), (2, E), (3, A[:4] + b"\3" + A[5:])]), data, "the collection's writer")
+    rules = [(1, A), (2, B), (3, C), (4, D), (5, E), (6, G), (7, H), (8, b""), (9, b"\0"), (65535, bytes(range(6)))]
+    lines = ("1 2 pos 1 1 - -/2 2 neg 1 1 - -/3 3 both 1 1 - 2/4 1 none - - - -/5 3 pos 2 2 1 3/6 5 both 2 2 1 3/"
+             "7 2 pos 1 - - -/8 refused 1 0/9 refused 1 1/65535 refused 2 0/")
+    check(listing(collection(rules)), reference.HEADER + lines.replace("/", "\n"), "listing of ten entries")
+    for text, wanted in (("", (20, 0)), ("00", (20, 0)), ("0000FF", (25, 0)), ("0102", (21, 0)), ("0002", (22, 0)),
+                         ("0100", (22, 0)), ("01000A00000009000100", (25, 0)), ("01000A00010000000100", (24, 0)),
+                         ("01000A00000000000000", 1), ("0200 6300000000000500 1200000000000500", (23, 1)),
+                         ("0200 1200000000000500 6300000000000600", (24, 1))):
+        check(answer(reference.judge_collection, bytes.fromhex(text)), wanted, text)
+    check(listing(b""), "collection refused 20\n", "empty input")
+    check(listing(b"\0\0"), reference.HEADER, "0 0")
+    check(listing(b"\0\0" + bytes(65534)), "collection refused 25\n", "65,536 bytes")
+    check(listing(b"\0\0" + bytes(65535)), "collection refused 26\n", "65,537 bytes")
+
+
+def enumerated(table, faults, values):
+    """The first witness among all sent traces of up to 2 n messages and all faults in them, from the definitions."""
+    def run(messages):
+        state = table.start
+        for m in messages:
+            state = table.rows[state][m]
+        return values[state]
+
+    for length in range(2 * table.n + 1):
+        found = []
+        for sent in itertools.product(range(table.k), repeat=length):
+            for i in range(length):
+                one, two = sent[i:i + 1], sent[i:i + 2]
+                changes = [(LOSS, one, 0, ())] + [(CORRUPTION, one, r, (r,)) for r in range(table.k)]
+                changes += [(REPEAT, one, 0, one + one)] + [(SWAP, two, 0, two[::-1])] * (len(two) == 2)
+                for kind, covered, replacement, put in changes:
+                    rest = sent[i + len(covered):]
+                    received = sent[:i] + put + rest
+                    if faults & kind and run(sent) != run(received):
+                        series = [(1, m) for m in sent[:i]] + [(0, kind, covered, replacement)] + [(1, m) for m in rest]
+                        witness = (length, i, kind, replacement, run(sent), run(received), list(sent))
+                        found.append((series, witness))
+        if found:
+            return min(found)[1]
+    return None
+
+
+def small_tables(n, k):
+    """All tables of n states and k messages that are accepted."""
+    for start in range(n):
+        for marks in itertools.product(range(3), repeat=n):
+            for rows in itertools.product(range(n), repeat=n * k):
+                body = bytes([n, k, start, *marks, *rows])
+                if answer(judge, body) is None:
+                    yield body
+
+
+def enumeration():
+    """All tables of one or two states and one or two messages, and random ones of three; all sets, both readings."""
+    bodies = [body for n in (1, 2) for k in (1, 2) for body in small_tables(n, k)]
+    check(len(bodies), 182, "number of small tables")
+    rng = random.Random("check_reference")
+    bodies += [random_table(rng, 3, 2) for _ in range(60)] + [random_table(rng, 2, 3) for _ in range(40)]
+    for body in bodies:
+        table = reference.read_table(body)
+        for reading in (3, 6):
+            values = [reference.read_state(table, reading, s) for s in range(table.n)]
+            for faults in range(16):
+                wanted = enumerated(table, faults, values)
+                check(fault(body, faults, reading, 99), wanted, (body.hex(), faults, reading))
+
+
+if __name__ == "__main__":
+    starred_facts()
+    edges()
+    examples()
+    collections()
+    enumeration()
+    print(f"check_reference: {checks:,} checks, no difference")

@@ -1,0 +1,123 @@
+"""Compares the programs `ask` and `listing` with reference.py on valid, damaged and hostile inputs.
+
+Run from the repository's root: python3 tests/hostile.py [FOLDER OF THE PROGRAMS]. The inputs are the same in each
+run. The first difference is printed with its command and input, and the run fails.
+"""
+
+import multiprocessing
+import os
+import random
+import re
+import subprocess
+import sys
+
+import reference
+from inputs import GROUPS
+from reference import INPUT_LIMIT, MONITORABILITY, Refused
+
+PROGRAMS = sys.argv[1] if len(sys.argv) > 1 else os.path.join("target", "bin")
+
+
+# ---- what the programs must answer -----------------------------------------------------------------------
+
+def number(word):
+    """A decimal number; beyond 20 digits its first 21 say enough: it is too large for everything asked."""
+    return int((word.lstrip("0") or "0")[:21])
+
+
+def ask_answer(command, numbers, data):
+    """The answer to a question with the right count of numbers, without the line's end."""
+    if command == "judge":
+        reference.judge(data)
+        return "accepted"
+    if command == "classes":
+        answer = reference.classes(data, *numbers)
+        listed = " ".join(map(str, answer.classes))
+        return f"monitorability {MONITORABILITY[answer.monitorability]} reached {answer.reached} classes {listed}"
+    if command == "step":
+        return "state {} reading {}".format(*reference.step(data, *numbers))
+    if command == "trace":
+        return f"reading {reference.trace(data, numbers[0], numbers[1:])}"
+    if command == "fault":
+        w = reference.fault(data, *numbers)
+        if w is None:
+            return "immune"
+        return (f"vulnerable distance {w.distance} before {w.before} kind {w.kind} replacement {w.replacement} "
+                f"readings {w.sent_reading} {w.received_reading} sent {' '.join(map(str, w.sent))}")
+    return f"accepted {reference.judge_collection(data)}"
+
+
+def expected(program, words, data):
+    """The program's standard output, or None where it must show its usage instead."""
+    if program == "listing":
+        return reference.listing(data)
+    counts = {"judge": 0, "classes": 1, "step": 3, "fault": 3, "collection": 0}
+    command, numbers = (words or [""])[0], words[1:]
+    right_count = len(numbers) >= 1 if command == "trace" else counts.get(command) == len(numbers)
+    if not right_count or not all(re.fullmatch("[0-9]+", word) for word in numbers):
+        return None
+    try:
+        reference.question(len(data) <= INPUT_LIMIT, 26, 0)
+        return ask_answer(command, [number(word) for word in numbers], data) + "\n"
+    except Refused as no:
+        return f"refused {no.number} {no.place}\n"
+
+
+# ---- the comparison --------------------------------------------------------------------------------------
+
+def run(program, words, data):
+    """What the program wrote to standard output and standard error, as text."""
+    try:
+        done = subprocess.run([os.path.join(PROGRAMS, program), *words], input=data, capture_output=True, timeout=60)
+    except subprocess.TimeoutExpired:
+        return "(no end within 60 seconds)", ""
+    died = f"(killed by signal {-done.returncode})" if done.returncode < 0 else ""
+    return done.stdout.decode("latin-1") + died, done.stderr.decode("latin-1")
+
+
+def compare(case):
+    """The count of answers compared (in a listing one for each entry) and the first difference, or None."""
+    program, words, data = case
+    wanted = expected(program, words, data)
+    out, err = run(program, words, data)
+    if wanted is None:
+        wanted = "usage: ask"
+        alike = out == "" and err.startswith("usage: ask ") and err.endswith("\n") and err.count("\n") == 1
+        out = f"{out}(standard error: {err})"
+    else:
+        alike = out == wanted
+    if alike:
+        return max(1, wanted.count("\n") - 1), None
+    return 0, (f"command: {program} {' '.join(words)[:1000]}\n{differing_entry(data, wanted, out)}"
+               f"input ({len(data)} bytes): {data.hex()}\nexpected: {wanted}\ncame: {out}")
+
+
+def differing_entry(data, wanted, came):
+    """For a listing: the first line that differs, and its body."""
+    for i, (one, other) in enumerate(zip(wanted.splitlines(), came.splitlines())):
+        if one != other and i > 0 and wanted.startswith(reference.HEADER):
+            body = reference.read_collection(data)[i - 1][1]
+            return f"entry {i - 1}: expected {one}, came {other}, body: {body.hex()}\n"
+    return ""
+
+
+def main():
+    for program in ("ask", "listing"):
+        if not os.access(os.path.join(PROGRAMS, program), os.X_OK):
+            sys.exit(f"hostile: {os.path.join(PROGRAMS, program)} is missing")
+    total = 0
+    with multiprocessing.Pool(2) as pool:
+        for group in GROUPS:
+            name = group.__name__.replace("_", " ")
+            count = 0
+            for compared, difference in pool.imap(compare, group(random.Random(name)), chunksize=4):
+                if difference is not None:
+                    sys.exit(f"hostile: difference in {name}\n{difference}")
+                count += compared
+            print(f"{name}: {count:,}", flush=True)
+            total += count
+    print(f"hostile: {total:,} comparisons, no difference")
+
+
+if __name__ == "__main__":
+    main()

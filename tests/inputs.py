@@ -1,0 +1,358 @@
+"""The inputs of hostile.py, in groups. A case is a program, its arguments and its standard input."""
+
+import reference
+from reference import INPUT_LIMIT
+from tables import A, B, D, E, PAPER, collection, damaged, far_table, in_a_row, late_repeat, packed, random_table, table
+
+ROOM = 1000         # an area that holds every answer
+WIDE = [2**8, 2**8 + 1, 2**16, 2**32, 2**32 + 3, 2**63, 2**64 - 1, 2**64, 2**64 + 1, 2**64 + 3, 2**64 + 6, 10**40]
+
+
+def ask(data, *words):
+    return "ask", [str(word) for word in words], data
+
+
+def listing(data):
+    return "listing", [], data
+
+
+# ---- valid tables ----------------------------------------------------------------------------------------
+
+def paper_tables(rng):
+    """The paper's tables: every set and reading, with areas that are just too short, fit, or have one byte more."""
+    for body in PAPER:
+        yield ask(body, "judge")
+        yield from (ask(body, "classes", area) for area in range(body[0] + 2))
+        for faults in range(16):
+            for reading in (3, 6):
+                yield from (ask(body, "fault", faults, reading, area) for area in range(5))
+
+
+def vulnerable_table(rng, n, k):
+    """A table whose reached states read differently, so that loss harms it, if one comes up in 20 draws."""
+    for _ in range(20):
+        body = random_table(rng, n, k)
+        drawn = reference.read_table(body)
+        if len({drawn.marks[s] for s in reference.reached_from(drawn, drawn.start)}) > 1:
+            break
+    return body
+
+
+def small_listings(rng):
+    """Tables of up to 6 states and 4 messages, 512 to a listing."""
+    makers = [random_table, vulnerable_table]
+    bodies = (rng.choice(makers)(rng, rng.randint(1, 6), rng.randint(1, 4)) for _ in range(14000))
+    yield from map(listing, packed(bodies))
+
+
+def all_sizes(rng):
+    """Tables of all 1,024 sizes; most are vulnerable, as a large immune one takes long."""
+    for n in range(1, 65):
+        for k in range(1, 17):
+            yield rng.choice([random_table] + [vulnerable_table] * 5)(rng, n, k)
+
+
+def listings_of_all_sizes(rng):
+    """Every size twice."""
+    for limit in (INPUT_LIMIT, 20000):
+        yield from map(listing, packed(all_sizes(rng), limit))
+
+
+def far_listings(rng):
+    """Tables with distances up to 125."""
+    bodies = [far_table(rng, n, rng.randint(3, 5)) for n in range(4, 65) for _ in range(4)]
+    yield from map(listing, packed(bodies))
+
+
+def witnesses_of_small_tables(rng):
+    """The whole first witness: all sets, both readings."""
+    for _ in range(170):
+        body = vulnerable_table(rng, rng.randint(2, 7), rng.randint(1, 4))
+        for faults in range(16):
+            for reading in (3, 6):
+                yield ask(body, "fault", faults, reading, ROOM)
+
+
+def witnesses_of_all_sizes(rng):
+    """The first witness for some sets, at two fifths of all sizes."""
+    for body in all_sizes(rng):
+        if rng.random() < 0.4:
+            for _ in range(3):
+                yield ask(body, "fault", rng.randint(1, 15), rng.choice([3, 6]), ROOM)
+
+
+def areas_for_witnesses(rng):
+    """Areas around the distance and around the number of states, and far witnesses."""
+    bodies = [vulnerable_table(rng, rng.randint(1, 12), rng.randint(1, 4)) for _ in range(80)]
+    bodies += [far_table(rng, n, 3) for n in range(4, 65, 2)]
+    bodies += [table(*make(n, k)) for make in (in_a_row, late_repeat) for n, k in ((63, 3), (64, 3), (64, 16))]
+    for body in bodies:
+        for faults in (rng.choice([1, 2, 4, 8]), rng.choice([4, 8, 12]), rng.randint(0, 15)):
+            reading = rng.choice([3, 6])
+            witness = reference.fault(body, faults, reading, 1000)
+            distance = witness.distance if witness else 0
+            for area in {0, distance - 1, distance, distance + 1, body[0] - 1, body[0], rng.choice(WIDE)} - {-1}:
+                yield ask(body, "fault", faults, reading, area)
+
+
+def classes_of_tables(rng):
+    """All sizes of n; areas around n and very wide ones."""
+    for n in list(range(1, 65)) * 5:
+        body = random_table(rng, n, rng.randint(1, 16))
+        for area in (n - 1, n, n + 1, rng.choice([0, 1, 255, 256] + WIDE)):
+            yield ask(body, "classes", area)
+
+
+def steps_and_traces(rng):
+    """Every step of small tables, random steps of large ones; traces from the empty one to 70,000 messages."""
+    for n, k in ((1, 1), (2, 2), (3, 4), (5, 3), (7, 2), (4, 16)):
+        body = random_table(rng, n, k)
+        for state in range(n + 1):
+            for message in range(k + 1):
+                yield from (ask(body, "step", reading, state, message) for reading in (3, 6))
+    for _ in range(500):
+        n, k = rng.randint(1, 64), rng.randint(1, 16)
+        body = random_table(rng, n, k)
+        yield ask(body, "step", rng.choice([3, 6]), rng.choice([0, n - 1, rng.randrange(n)]), rng.choice([0, k - 1]))
+        length = rng.choice([0, 1, 2, 3, rng.randint(0, 20), rng.randint(0, 300)])
+        messages = [rng.randrange(k) for _ in range(length)]
+        yield ask(body, "trace", rng.choice([3, 6]), *messages)
+        if messages:
+            messages[rng.choice([0, -1, rng.randrange(length)])] = rng.choice([k, k + 1, 255] + WIDE)
+            yield ask(body, "trace", rng.choice([3, 6, 3, 6, 5]), *messages)
+    for length in (10000, 70000):
+        yield ask(E, "trace", 3, *[0] * length, 1, 1)
+        yield ask(E, "trace", 6, *[0] * length, 2, 1)
+
+
+# ---- refused tables and numbers --------------------------------------------------------------------------
+
+def damaged_bodies(rng, tables):
+    """Each question 1 to 8 failing alone and with each later one, at the first, the last and any place."""
+    for _ in range(tables):
+        n, k = rng.choice([1, 2, 3, rng.randint(4, 64)]), rng.choice([1, 2, rng.randint(1, 16)])
+        marks = [rng.choice([0, 1, 2]) for _ in range(n - 1)] + [rng.choice([1, 2])]
+        body = random_table(rng, n, k, marks)
+        for where in ("first", "last", "any"):
+            for first in range(1, 9):
+                yield damaged(rng, body, (n, k), first, where)
+                for later in range(first + 1, 9):
+                    yield damaged(rng, damaged(rng, body, (n, k), later, where), (n, k), first, where)
+
+
+def damaged_in_listings(rng):
+    """The refusal of each damaged body, as the listing shows it."""
+    yield from map(listing, packed(damaged_bodies(rng, 60)))
+
+
+def damaged_in_calls(rng):
+    """A damaged table is refused first, whatever the numbers of the call are."""
+    calls = [["judge"], ["classes", 0], ["classes", 64], ["step", 5, 99, 99], ["step", 3, 0, 0], ["trace", 5, 99],
+             ["trace", 3], ["fault", 16, 5, 0], ["fault", 15, 3, 0], ["fault", 15, 6, ROOM]]
+    for body in damaged_bodies(rng, 10):
+        yield ask(body, "judge")
+        yield ask(body, *rng.choice(calls))
+
+
+def lengths_and_counts(rng):
+    """Bodies of each length around the right one, with n and k around their limits."""
+    for n in (0, 1, 2, 63, 64, 65, 66, 128, 255):
+        for k in (0, 1, 2, 15, 16, 17, 18, 128, 255):
+            right = 3 + n + n * k
+            lengths = {0, 1, 2, 3, 4, right - 1, right, right + 1, right + 256}
+            yield from (ask(bytes([n, k] + [0] * length)[:length], "judge") for length in sorted(lengths))
+    full = table(0, [0] * 64, [[63] * 16] * 64)
+    for length in (1090, 1091, 1092, 4096, 65535, 65536, 65537, 70000, 200000):
+        yield ask(full[:length] + bytes(max(0, length - 1091)), "judge")
+        yield ask(full[:length] + bytes(max(0, length - 1091)), "fault", 16, 5, 0)
+
+
+def random_bytes(rng):
+    """Bytes without any sense, and bytes that are small enough to pass some questions."""
+    def body():
+        top = rng.choice([255, 255, 64, 16, 4, 2, 1])
+        return bytes(rng.randint(0, top) for _ in range(rng.choice([rng.randint(0, 6), rng.randint(0, 60)])))
+
+    yield from map(listing, packed(body() for _ in range(4000)))
+    for _ in range(400):
+        yield ask(body(), "judge")
+        yield ask(body(), "fault", rng.randint(0, 20), rng.randint(2, 7), rng.randint(0, 5))
+        yield ask(body(), "collection")
+        yield listing(body())
+
+
+def numbers_around_limits(rng):
+    """Sets, readings, states, messages and areas around their limits, in bytes, in 64 bits and far beyond."""
+    for n, k in ((1, 1), (2, 2), (5, 3), (64, 16), (13, 7)):
+        body = vulnerable_table(rng, n, k)
+        sets = list(range(18)) + [255] + WIDE
+        readings = list(range(9)) + [255, 256 + 3, 256 + 6] + WIDE
+        states = sorted({0, n - 1, n, n + 1, 63, 64, 255, 256 + n - 1, *WIDE})
+        messages = sorted({0, k - 1, k, k + 1, 15, 16, 255, 256 + k - 1, *WIDE})
+        for faults in sets:
+            for reading in (3, 5, 6):
+                yield ask(body, "fault", faults, reading, rng.choice([0, ROOM]))
+        for reading in readings:
+            yield ask(body, "fault", rng.choice([15, 16]), reading, ROOM)
+            yield ask(body, "step", reading, rng.choice([0, n]), rng.choice([0, k]))
+            yield ask(body, "trace", reading, *rng.choice([[], [0], [0, k]]))
+        for state in states:
+            yield from (ask(body, "step", reading, state, m) for reading in (3, 5, 6) for m in (0, k - 1, k))
+        for message in messages:
+            yield from (ask(body, "step", reading, s, message) for reading in (3, 6) for s in (0, n - 1, n))
+            yield ask(body, "trace", 3, message)
+            yield ask(body, "trace", 6, 0, 0, message, k)
+        for area in [0, 1, 2, n - 1, n, n + 1, 255, 256] + WIDE:
+            yield ask(body, "classes", area)
+            yield ask(body, "fault", 15, 3, area)
+
+
+def leading_zeros(rng):
+    """Numbers with many digits: zeros in front change nothing, a long number is too large."""
+    body = E
+    for zeros in ("0", "000", "0" * 30, "0" * 300, "0" * 100000):
+        for area in ("2", "3", "18446744073709551619"):
+            yield ask(body, "fault", zeros + "8", zeros + "3", zeros + area)
+            yield ask(body, "classes", zeros + area)
+        yield ask(body, "step", zeros + "6", zeros + "1", zeros + "1")
+        yield ask(body, "trace", zeros + "3", zeros + "1", zeros + "1", zeros)
+        yield ask(body, "trace", zeros + "3", zeros + "1", zeros + "2")
+    for long in ("9" * 30, "1" + "0" * 5000, "3" * 100000):
+        yield ask(body, "classes", long)
+        yield ask(body, "fault", long, 5, 0)
+        yield ask(body, "fault", 8, long, 0)
+        yield ask(body, "fault", 8, 3, long)
+        yield ask(body, "step", 3, long, 0)
+        yield ask(body, "step", 3, 0, long)
+        yield ask(body, "trace", 3, 0, long)
+
+
+def wrong_arguments(rng):
+    """Unknown questions, too few and too many arguments, and words that are no numbers: the usage line."""
+    lines = ["", "3", "judg", "JUDGE", "judge 1", "judge judge", "--help", "listing", "classes", "classes 1 2",
+             "step", "step 3", "step 3 0", "step 3 0 0 0", "trace", "fault", "fault 1", "fault 1 3", "fault 1 3 9 9",
+             "collection 0"]
+    calls = [line.split() for line in lines]
+    # The last two: a digit of another script, and a byte that is no text.
+    for bad in ("", " ", "-1", "+1", "1 ", " 1", "0x10", "1e3", "1.0", "1,000", "a", "3a", "9" * 30 + "x", "/", ":",
+                "\u0663", "\udcff"):
+        calls += [[bad], ["classes", bad], ["step", bad, "0", "0"], ["step", "3", "0", bad], ["trace", bad],
+                  ["trace", "3", "0", bad], ["fault", bad, "3", "9"], ["fault", "1", "3", bad]]
+    for words in calls:
+        for data in (A, b"", b"\0\0"):
+            yield ask(data, *words)
+
+
+# ---- collections -----------------------------------------------------------------------------------------
+
+def both(data):
+    """The same collection asked about and listed."""
+    yield ask(data, "collection")
+    yield listing(data)
+
+
+def cut_collections(rng):
+    """Cut at every position, and with bytes added."""
+    for data in (collection([(1, A), (2, B), (3, D), (4, E)]), collection([(0, b""), (7, b""), (65535, A)]), b"\0\0"):
+        for length in range(len(data) + 1):
+            yield from both(data[:length])
+        for more in (1, 2, 8, 9, 256, 65536 - len(data)):
+            yield from both(data + bytes(more))
+
+
+def altered_collections(rng):
+    """Each byte of the contents, and each byte of the bodies, changed in several ways."""
+    data = collection([(5, A), (6, b""), (0x0102, E), (0xFFFF, B)])
+    contents = 2 + 8 * 4
+    for place in range(len(data)):
+        old = data[place]
+        ways = {old ^ 1, old ^ 0x80, (old + 1) % 256, (old - 1) % 256, 0, 255} if place < contents else {old ^ 1, 255}
+        for new in sorted(ways - {old}):
+            changed = data[:place] + bytes([new]) + data[place + 1:]
+            yield from both(changed)
+            if place < contents:
+                other = rng.randrange(contents)
+                yield ask(changed[:other] + bytes([rng.randrange(256)]) + changed[other + 1:], "collection")
+
+
+def counts_and_numbers(rng):
+    """Counts around the limit, and rule numbers that are equal or fall at the first, the last or any entry."""
+    for count in (0, 1, 2, 255, 256, 257, 511, 512, 513, 514, 768, 1024):
+        data = collection([(i, PAPER[i % len(PAPER)]) for i in range(count)])
+        yield from both(data)
+        yield from both(data[:2 + 8 * count])
+        yield from both(data[:max(0, 2 + 8 * count - 1)])
+    for count in (0x0200, 0x0201, 0x02FF, 0x0300, 0x8000, 0xFF00, 0xFFFF):
+        yield from both(count.to_bytes(2, "little") + bytes(8 * 512))
+    for count in (2, 3, 10, 512):
+        for place in {1, count - 1, rng.randrange(1, count)}:
+            for change in (0, -1, -256, 255, 256):
+                numbers = [300 + 2 * i for i in range(count)]
+                numbers[place] = numbers[place - 1] + change
+                yield from both(collection([(rule, D) for rule in numbers]))
+    for numbers in ([0], [65535], [0, 65535], [65535, 0], [65535, 65535], [0, 0], [0, 1, 256], [255, 256], [256, 255]):
+        yield from both(collection([(rule, A) for rule in numbers]))
+
+
+def gaps_and_overlaps(rng):
+    """Offsets and lengths that do not meet, alone and together with other faults."""
+    for count in (1, 2, 3, 9):
+        bodies = [rng.choice(PAPER) for _ in range(count)]
+        sound = collection(list(enumerate(bodies)))
+        for entry in range(count):
+            head = 2 + 8 * entry
+            offset = int.from_bytes(sound[head:head + 4], "little")
+            length = len(bodies[entry])
+            for wrong in (offset + 1, offset - 1, 0, offset + 2**8, offset + 2**16, offset + 2**24, 2**32 - 1):
+                changed = sound[:head] + wrong.to_bytes(4, "little") + sound[head + 4:]
+                yield from both(changed)
+                yield from both(changed + b"\0")
+                yield from both(changed[:2 + 6] + b"\xff\xff" + changed[2 + 8:])    # rule numbers that fall as well
+            for wrong in (length + 1, length - 1, 0, length + 256, 65535):
+                yield from both(sound[:head + 4] + wrong.to_bytes(2, "little") + sound[head + 6:])
+    # Contents that fit each other, with bodies far beyond the file's end, also by exactly 65,536 bytes.
+    for lengths in ([65535], [65535, 1], [65535] * 16, [65535] * 512, [32768, 32768], [9, 65535, 1]):
+        claimed = collection([(i, bytes(length)) for i, length in enumerate(lengths)])
+        yield from both(claimed[:2 + 8 * len(lengths)])
+        yield from both(claimed[:2 + 8 * len(lengths) + 9])
+
+
+def random_collections(rng):
+    """Sound collections of mixed bodies, and the same with a few bytes changed, cut or added."""
+    for _ in range(350):
+        rules = sorted(rng.sample(range(65536), rng.randint(0, 12)))
+        entries = []
+        for rule in rules:
+            noise = bytes(rng.randrange(8) for _ in range(rng.randint(0, 20)))
+            entries.append((rule, rng.choice([rng.choice(PAPER), b"", noise])))
+        data = collection(entries)
+        yield from both(data)
+        for _ in range(rng.choice([1, 1, 2, 3])):
+            place = rng.randrange(min(len(data), 2 + 8 * len(rules)))
+            data = data[:place] + bytes([rng.choice([rng.randrange(256), data[place] ^ 1])]) + data[place + 1:]
+        yield from both(rng.choice([data, data, data[:rng.randint(0, len(data))], data + bytes(rng.randint(1, 3))]))
+
+
+def input_sizes(rng):
+    """Inputs around 65,536 bytes; accepted collections of exactly that size."""
+    wide = [table(*late_repeat(64, 16))] + [random_table(rng, 64, 16, [0] * 62 + [1, 2]) for _ in range(57)]
+    filled = wide + [bytes(65536 - 2 - 8 * 59 - 1091 * 58)]
+    exact = [collection(list(enumerate(filled))), collection([(9, bytes(65526))]),
+             collection([(i, A) for i in range(511)] + [(65535, bytes(65536 - 2 - 8 * 512 - 9 * 511))])]
+    for data in exact:
+        assert len(data) == INPUT_LIMIT and reference.judge_collection(data) > 0
+        for sized in (data, data[:-1], data + b"\0", data + data):
+            yield from both(sized)
+    for length in (65535, 65536, 65537, 65538, 100000, 131072, 1000000):
+        for first in (b"\0\0", b"\1\0", b"\xff\xff", A):
+            data = first + bytes(length - len(first))
+            yield from both(data)
+            yield ask(data, "judge")
+            yield ask(data, "trace", 3, 0)
+            yield ask(data, *rng.choice([["classes", 64], ["step", 3, 0, 0], ["fault", 16, 5, 0]]))
+
+
+GROUPS = [paper_tables, small_listings, listings_of_all_sizes, far_listings, witnesses_of_small_tables,
+          witnesses_of_all_sizes, areas_for_witnesses, classes_of_tables, steps_and_traces, damaged_in_listings,
+          damaged_in_calls, lengths_and_counts, random_bytes, numbers_around_limits, leading_zeros, wrong_arguments,
+          cut_collections, altered_collections, counts_and_numbers, gaps_and_overlaps, random_collections, input_sizes]

@@ -1,0 +1,118 @@
+"""Runs `listing`, `card` and `ask` under valgrind on the largest, shortest and most damaged inputs.
+
+Run from the repository's root: python3 tests/memory.py [FOLDER OF THE PROGRAMS]. What the programs print is not looked
+at here; each invalid read or write, and each decision on a value that was never set, is an error.
+"""
+
+import os
+import random
+import re
+import shutil
+import subprocess
+import sys
+from concurrent.futures import ThreadPoolExecutor
+
+from inputs import ROOM, ask, listing
+from tables import A, D, collection, damaged, in_a_row, late_repeat, random_table, table
+
+PROGRAMS = sys.argv[1] if len(sys.argv) > 1 else os.path.join("target", "bin")
+LONG = "7" * 100000
+
+
+def card(data, *words):
+    return "card", [str(word) for word in words], data
+
+
+def large_tables():
+    """The longest accepted tables and the longest distances."""
+    rng = random.Random("memory")
+    far, row = table(*late_repeat(64, 16)), table(*in_a_row(64, 16))
+    for body in (far, random_table(rng, 64, 16), table(63, [0] * 64, [[63] * 16] * 64), table(0, [0], [[0] * 16])):
+        yield ask(body, "judge")
+        yield ask(body, "classes", 64)
+    for area in (124, 125, ROOM):
+        yield ask(far, "fault", 4, 3, area)
+    for area in (63, 64):
+        yield ask(row, "fault", 8, 6, area)
+    for area in (0, 2**64 - 1, 2**64 + 3):
+        yield ask(A, "fault", 2, 3, area)
+    yield ask(far, "fault", 15, 6, ROOM)
+    yield ask(far, "step", 6, 63, 15)
+    yield ask(far, "trace", 6, *[rng.randrange(16) for _ in range(10000)])
+    yield ask(far, "trace", 3, *[0] * 9999, 16)
+    both = collection([(1, far), (65535, row)])
+    yield listing(both)
+    yield card(both)
+    yield card(both, 1, 65535, 2)
+
+
+def collections():
+    """Many entries, and inputs around the limit of 65,536 bytes."""
+    most = collection([(i, D) for i in range(511)] + [(65535, bytes(65536 - 2 - 8 * 512 - 6 * 511))])
+    single = collection([(9, bytes(65526))])
+    for data in (b"", b"\0\0", most, most + b"\0", single, b"\xff" * 65536, bytes(200000)):
+        yield ask(data, "collection")
+        yield listing(data)
+        yield card(data)
+    yield card(most, 65535, 0, 510, 511)
+    yield card(most, *range(10000))
+
+
+def refusals():
+    """Every refusal of a body, a number, or a collection."""
+    rng = random.Random("memory")
+    body = random_table(rng, 6, 3, [0, 0, 1, 1, 2, 2])
+    broken = [damaged(rng, body, (6, 3), question, "last") for question in range(1, 9)]
+    yield from (ask(data, "judge") for data in broken)
+    yield listing(collection(list(enumerate(broken))))
+    yield card(collection(list(enumerate(broken))))
+    for line in ("fault 16 3 9", "fault 1 4 9", "fault 3 3 0", "classes 5", "step 2 0 0", "step 3 6 0", "step 3 0 3",
+                 "trace 3 0 3", "trace 7"):
+        yield ask(body, *line.split())
+    sound = collection([(1, A), (2, A)])
+    for data in (b"\1\2", sound[:17], collection([(2, A), (2, A)]), sound[:10] + b"\xff" + sound[11:], sound[:-1]):
+        yield ask(data, "collection")
+        yield card(data)
+
+
+def arguments():
+    """No arguments, wrong ones, and very long ones."""
+    for words in ([], ["x"], [""], [LONG], ["classes"], ["classes", "-1"], ["classes", LONG], ["classes", LONG + "x"],
+                  ["fault", LONG, LONG, LONG], ["fault", 8, 3, "0" * 100000], ["step", 3, LONG, LONG],
+                  ["trace", 3, 0, LONG]):
+        yield ask(A, *words)
+    for words in ([LONG], ["0" * 100000 + "1"], ["x"], [""], ["-1"], [65536], [2**64 + 1]):
+        yield card(collection([(1, A)]), *words)
+
+
+def error_of(case):
+    """None, or the command, the input and what valgrind said of it."""
+    program, words, data = case
+    command = ["valgrind", "--error-exitcode=9", "-q", os.path.join(PROGRAMS, program), *words]
+    try:
+        done = subprocess.run(command, input=data, capture_output=True, timeout=120)
+        status, said = done.returncode, done.stderr.decode("latin-1")
+    except subprocess.TimeoutExpired:
+        status, said = -1, "no end within 120 seconds"
+    if 0 <= status < 126 and status != 9 and not re.search(r"^==\d+==", said, re.MULTILINE):
+        return None
+    return (f"command: {program} {' '.join(words)[:200]}\ninput ({len(data)} bytes): {data[:200].hex()}\n"
+            f"status {status}: {said[:4000]}")
+
+
+def main():
+    if shutil.which("valgrind") is None:
+        sys.exit("memory: valgrind is not installed")
+    for program in ("ask", "card", "listing"):
+        if not os.access(os.path.join(PROGRAMS, program), os.X_OK):
+            sys.exit(f"memory: {os.path.join(PROGRAMS, program)} is missing")
+    cases = [*large_tables(), *collections(), *refusals(), *arguments()]
+    with ThreadPoolExecutor(2) as pool:
+        errors = [error for error in pool.map(error_of, cases) if error is not None]
+    if errors:
+        sys.exit("\n".join(["memory: an error under valgrind", *errors]))
+    print(f"memory: {len(cases)} runs under valgrind, no error")
+
+
+if __name__ == "__main__":
+    main()

@@ -1,0 +1,248 @@
+"""The scope paper's rules on tables, faults and collections, written for clarity and not for speed.
+
+The programs' answers are compared with these. Each function follows the paper's words; none of it is taken
+from the library. Bytes go in; an answer comes out or `Refused` is raised with a number and a place.
+"""
+
+import heapq
+from collections import namedtuple
+
+LOSS, CORRUPTION, REPEAT, SWAP = 1, 2, 4, 8
+GOOD, BAD, POSITIVE, NEGATIVE, NEUTRAL, UGLY = range(6)
+MONITORABILITY = ("pos", "neg", "both", "none")
+INPUT_LIMIT = 65536
+HEADER = "rule states class loss corruption repeat swap\n"
+
+Table = namedtuple("Table", "n k start marks rows")
+Classes = namedtuple("Classes", "monitorability reached classes")
+Witness = namedtuple("Witness", "distance before kind replacement sent_reading received_reading sent")
+
+
+class Refused(Exception):
+    """The first question answered with no: its number and a place."""
+
+    def __init__(self, number, place):
+        super().__init__(number, place)
+        self.number, self.place = number, place
+
+
+def question(yes, number, place):
+    if not yes:
+        raise Refused(number, place)
+
+
+# ---- one table -------------------------------------------------------------------------------------------
+
+def read_table(body):
+    """Questions 1 to 8, and the table."""
+    question(len(body) >= 3, 1, len(body))
+    n, k, start = body[0], body[1], body[2]
+    question(1 <= n <= 64, 2, 0)
+    question(1 <= k <= 16, 3, 1)
+    question(len(body) == 3 + n + n * k, 4, len(body))
+    question(start < n, 5, 2)
+    first_next = 3 + n
+    for place in range(3, first_next):
+        question(body[place] <= 2, 6, place)
+    for place in range(first_next, len(body)):
+        question(body[place] < n, 7, place)
+    marks = list(body[3:first_next])
+    for place in range(first_next, len(body)):
+        mark = marks[(place - first_next) // k]
+        question(mark == 0 or marks[body[place]] == mark, 8, place)
+    rows = [list(body[first_next + s * k:first_next + (s + 1) * k]) for s in range(n)]
+    return Table(n, k, start, marks, rows)
+
+
+def judge(body):
+    """Accepted (nothing is answered), or refused."""
+    read_table(body)
+
+
+def reached_from(table, state):
+    """The states to which some trace leads from the state, itself included."""
+    seen, waiting = {state}, [state]
+    while waiting:
+        new = set(table.rows[waiting.pop()]) - seen
+        seen |= new
+        waiting.extend(new)
+    return seen
+
+
+def class_of(table, state):
+    if table.marks[state] != 0:
+        return GOOD if table.marks[state] == 1 else BAD
+    marks = {table.marks[s] for s in reached_from(table, state)}
+    if 1 in marks:
+        return NEUTRAL if 2 in marks else POSITIVE
+    return NEGATIVE if 2 in marks else UGLY
+
+
+def classes(body, area_length):
+    """Monitorability as a number, the count of states reached, and the class of every state."""
+    table = read_table(body)
+    question(table.n <= area_length, 13, 0)
+    of_state = [class_of(table, s) for s in range(table.n)]
+    reached = reached_from(table, table.start)
+    if any(of_state[s] == UGLY for s in reached):
+        monitorability = 3
+    else:
+        monitorability = {GOOD: 0, POSITIVE: 0, BAD: 1, NEGATIVE: 1, NEUTRAL: 2}[of_state[table.start]]
+    return Classes(monitorability, len(reached), of_state)
+
+
+def read_state(table, reading, state):
+    return table.marks[state] if reading == 3 else class_of(table, state)
+
+
+def step(body, reading, state, message):
+    """The next state and its reading."""
+    table = read_table(body)
+    question(reading in (3, 6), 10, 0)
+    question(state < table.n, 11, 0)
+    question(message < table.k, 12, 0)
+    after = table.rows[state][message]
+    return after, read_state(table, reading, after)
+
+
+def trace(body, reading, messages):
+    """The reading of the state reached from the start."""
+    table = read_table(body)
+    question(reading in (3, 6), 10, 0)
+    for place, message in enumerate(messages):
+        question(message < table.k, 12, place)
+    state = table.start
+    for message in messages:
+        state = table.rows[state][message]
+    return read_state(table, reading, state)
+
+
+# ---- the fault question ----------------------------------------------------------------------------------
+
+# A step's key. Keys compare as the paper orders steps: a fault step (0, ..) before a plain one (1, ..);
+# fault steps by kind, then sent messages, then replacement; plain steps by message.
+
+def plain_step(message):
+    return (1, 0, (message,), 0)
+
+
+def fault_step(kind, sent, replacement=0):
+    return (0, kind, sent, replacement)
+
+
+def fault_steps(table, faults, state):
+    """Each fault step at the state: its key, and the sent and the received state after it."""
+    rows = table.rows
+    for m in range(table.k):
+        after = rows[state][m]
+        if faults & LOSS:
+            yield fault_step(LOSS, (m,)), (after, state)
+        if faults & CORRUPTION:
+            for r in range(table.k):
+                yield fault_step(CORRUPTION, (m,), r), (after, rows[state][r])
+        if faults & REPEAT:
+            yield fault_step(REPEAT, (m,)), (after, rows[after][m])
+        if faults & SWAP:
+            for m2 in range(table.k):
+                yield fault_step(SWAP, (m, m2)), (rows[after][m2], rows[rows[state][m2]][m])
+
+
+def followers(table, faults, sent, received):
+    """Each step that a series can take at a node: its key and the node after it."""
+    if received is None:
+        yield from fault_steps(table, faults, sent)
+    for m in range(table.k):
+        yield plain_step(m), (table.rows[sent][m], None if received is None else table.rows[received][m])
+
+
+def first_series(table, faults, values):
+    """The first series of steps after which the two states' values differ, with both states; or None.
+
+    A node is a state before the fault (received None) or the sent and the received state after it. `first` holds
+    the first series known to each node, as (sent length, step keys)."""
+    # Of two series of equal sent length none begins the other, so appending steps keeps their order, and every
+    # step adds length: the first pop of a node has its first series, and nodes are popped in the order of these.
+    start = (table.start, None)
+    first = {start: (0, ())}
+    heap = [(first[start], start)]
+    while heap:
+        order, node = heapq.heappop(heap)
+        if order is not first[node]:
+            continue    # a better series came in after this one was noted
+        (length, series), (sent, received) = order, node
+        if received is not None and values[sent] != values[received]:
+            return series, sent, received
+        for key, after in followers(table, faults, sent, received):
+            after_order = (length + len(key[2]), series + (key,))
+            if after not in first or after_order < first[after]:
+                first[after] = after_order
+                heapq.heappush(heap, (after_order, after))
+    return None
+
+
+def fault(body, faults, reading, area_length):
+    """None for immune, or the first witness."""
+    table = read_table(body)
+    question(faults <= 15, 9, 0)
+    question(reading in (3, 6), 10, 0)
+    values = [read_state(table, reading, s) for s in range(table.n)]
+    found = first_series(table, faults, values)
+    if found is None:
+        return None
+    series, sent_state, received_state = found
+    sent = [m for key in series for m in key[2]]
+    question(len(sent) <= area_length, 13, 0)
+    before = next(i for i, key in enumerate(series) if key[0] == 0)
+    _, kind, _, replacement = series[before]
+    return Witness(len(sent), before, kind, replacement, values[sent_state], values[received_state], sent)
+
+
+# ---- collections -----------------------------------------------------------------------------------------
+
+def number_at(data, place, width):
+    return int.from_bytes(data[place:place + width], "little")
+
+
+def read_collection(data):
+    """Questions 20 to 25, and the entries as pairs of rule number and body."""
+    question(len(data) >= 2, 20, 0)
+    count = number_at(data, 0, 2)
+    question(count <= 512, 21, 0)
+    question(len(data) >= 2 + 8 * count, 22, 0)
+    heads = [2 + 8 * i for i in range(count)]
+    offsets = [number_at(data, head, 4) for head in heads]
+    lengths = [number_at(data, head + 4, 2) for head in heads]
+    rules = [number_at(data, head + 6, 2) for head in heads]
+    for i in range(1, count):
+        question(rules[i] > rules[i - 1], 23, i)
+    end = 2 + 8 * count
+    for i in range(count):
+        question(offsets[i] == end, 24, i)
+        end += lengths[i]
+    question(end == len(data), 25, 0)
+    return [(rules[i], data[offsets[i]:offsets[i] + lengths[i]]) for i in range(count)]
+
+
+def judge_collection(data):
+    """The count of entries."""
+    return len(read_collection(data))
+
+
+def listing_line(rule, body):
+    try:
+        monitorability = MONITORABILITY[classes(body, 64).monitorability]
+    except Refused as no:
+        return f"{rule} refused {no.number} {no.place}\n"
+    witnesses = [fault(body, kind, 3, INPUT_LIMIT) for kind in (LOSS, CORRUPTION, REPEAT, SWAP)]
+    distances = " ".join("-" if w is None else str(w.distance) for w in witnesses)
+    return f"{rule} {body[0]} {monitorability} {distances}\n"
+
+
+def listing(data):
+    """The listing program's whole output."""
+    try:
+        question(len(data) <= INPUT_LIMIT, 26, 0)
+        entries = read_collection(data)
+    except Refused as no:
+        return f"collection refused {no.number}\n"
+    return HEADER + "".join(listing_line(rule, body) for rule, body in entries)
