@@ -22,11 +22,12 @@ test:
 	@set -euo pipefail; log=$$(mktemp); trap 'rm -f "$$log"' EXIT; \
 	rt ci 2>&1 | tee "$$log"; \
 	python3 samples/make.py --check; \
+	python3 tests/readme.py; \
 	python3 tests/compare.py; \
 	python3 tests/brute.py | diff tests/brute.expected -; cat tests/brute.expected; \
-	python3 tests/check_reference.py; \
-	python3 tests/hostile.py; \
-	python3 tests/memory.py; \
+	python3 -B tests/check_reference.py; \
+	python3 -B tests/hostile.py; \
+	python3 -B tests/memory.py; \
 	tail -n 1 "$$log"
 
 # Not part of the tests: the speed beside two implementations in C.

@@ -13,8 +13,8 @@ const INPUT_LIMIT: usize = 65536;
 // The length of the program's own area, which every answer fits.
 const AREA_SIZE: usize = 65536;
 
-// The greatest number of messages in a trace.
-const MESSAGE_LIMIT: usize = 65536;
+// The greatest number of messages in a trace: more than Linux hands over as arguments by its own limit of two million bytes.
+const MESSAGE_LIMIT: usize = 262144;
 
 // The messages of a trace stand in an array of their own.
 enum Question {
@@ -92,7 +92,7 @@ fn message_byte(number: usize) -> u8
 
 // Fills the area with the arguments from 3 on. Answers whether they are numbers.
 fn read_messages(area: &mut [u8]) -> bool
-    requires { ⌜ List·length (now area) ≤ 65536 ⌝ }
+    requires { ⌜ List·length (now area) ≤ 262144 ⌝ }
 {
     let mut i = 0;
     while i < area.len() {
@@ -106,7 +106,7 @@ fn read_messages(area: &mut [u8]) -> bool
 }
 
 fn trace_asked(length: usize, messages: &mut [u8]) -> Asked
-    requires { ⌜ List·length (now messages) ≤ 65536 ⌝ }
+    requires { ⌜ List·length (now messages) ≤ 262144 ⌝ }
 {
     let Decimal::Number(domain) = arguments::number_at(2) else {
         return Asked::Unclear;
@@ -122,7 +122,7 @@ fn trace_asked(length: usize, messages: &mut [u8]) -> Asked
 
 // Reads the arguments, of which there are `count` with the program's name. The messages of a trace go into the array.
 fn read_arguments(count: usize, messages: &mut [u8]) -> Asked
-    requires { ⌜ List·length (now messages) ≤ 65536 ⌝ }
+    requires { ⌜ List·length (now messages) ≤ 262144 ⌝ }
 {
     if count == 2 {
         if arguments::is_word(1, b"judge") {
@@ -225,7 +225,7 @@ fn main() {
             );
         }
         Asked::LongTrace => {
-            io::write_all(libc::STDERR_FILENO, b"ask: more than 65536 messages\n");
+            io::write_all(libc::STDERR_FILENO, b"ask: more than 262144 messages\n");
         }
     }
 }

@@ -1,0 +1,227 @@
+// The programs `listing` and `probe` around a baseline: the same input, the same text. The first argument says which.
+#include "bench.h"
+#include <stdio.h>
+#include <string.h>
+
+enum { INPUT = 65536 };
+
+static int u16(const uint8_t *b) { return b[0] | b[1] << 8; }
+
+// The first i below len with b[i] >= bound, or len.
+static int first_not_below(const uint8_t *b, int len, int bound)
+{
+    for (int i = 0; i < len; i++)
+        if (b[i] >= bound)
+            return i;
+    return len;
+}
+
+// Questions 1 to 8. Returns the number of the first no with its place, or 0 and the table.
+static int judge(const uint8_t *body, int len, int *place, struct table *t)
+{
+    *place = len;
+    if (len < 3)
+        return 1;
+    int n = body[0], k = body[1];
+    *place = 0;
+    if (n < 1 || n > STATES)
+        return 2;
+    *place = 1;
+    if (k < 1 || k > SYMBOLS)
+        return 3;
+    *place = len;
+    if (len != 3 + n + n * k)
+        return 4;
+    *place = 2;
+    if (body[2] >= n)
+        return 5;
+    *t = (struct table){n, k, body[2], body + 3, body + 3 + n};
+    int i = first_not_below(t->marks, n, 3);
+    *place = 3 + i;
+    if (i < n)
+        return 6;
+    i = first_not_below(t->next, n * k, n);
+    *place = 3 + n + i;
+    if (i < n * k)
+        return 7;
+    for (int q = 0; q < n; q++) {
+        if (t->marks[q] == 0)
+            continue;
+        for (i = q * k; i < q * k + k; i++) {
+            *place = 3 + n + i;
+            if (t->marks[t->next[i]] != t->marks[q])
+                return 8;
+        }
+    }
+    return 0;
+}
+
+// ---- output
+
+static char out[65536];
+static int used;
+
+static void flush(void)
+{
+    fwrite(out, 1, used, stdout);
+    used = 0;
+}
+
+static void text(const char *words)
+{
+    while (*words)
+        out[used++] = *words++;
+}
+
+// The words, and a number.
+static void number(const char *words, unsigned n)
+{
+    char digits[10];
+    int i = 0;
+    text(words);
+    do
+        digits[i++] = '0' + n % 10;
+    while (n /= 10);
+    while (i > 0)
+        out[used++] = digits[--i];
+}
+
+// A line is far shorter than half of the output's room.
+static void end_line(void)
+{
+    text("\n");
+    if (used > (int)sizeof out / 2)
+        flush();
+}
+
+static void refusal(int no, int place)
+{
+    number("refused ", no);
+    number(" ", place);
+}
+
+// ---- the answers
+
+static void print_card(const uint8_t *body, int len)
+{
+    static const char *words[] = {" pos", " neg", " both", " none"};
+    struct table t;
+    int place, no = judge(body, len, &place, &t);
+    if (no) {
+        refusal(no, place);
+        return;
+    }
+    struct card card = card_of(&t);
+    number("", t.n);
+    text(words[card.monitorability]);
+    for (int i = 0; i < 4; i++)
+        if (card.distance[i])
+            number(" ", card.distance[i]);
+        else
+            text(" -");
+}
+
+static void print_finding(int set, int reading, int room, const uint8_t *body, int len)
+{
+    uint8_t area[256];
+    struct table t;
+    struct witness w;
+    enum finding finding = IMMUNE;
+    int place, no = judge(body, len, &place, &t);
+    memset(area, 255, sizeof area);
+    if (no == 0 && set > 15)
+        no = 9, place = 0;
+    if (no == 0 && reading != 3 && reading != 6)
+        no = 10, place = 0;
+    if (no == 0)
+        finding = examine(&t, set, reading, area, room, &w);
+    if (finding == NO_ROOM)
+        no = 13, place = 0;
+    if (no)
+        refusal(no, place);
+    else if (finding == IMMUNE)
+        text("immune");
+    else {
+        number("vulnerable distance ", w.distance);
+        number(" before ", w.before);
+        number(" kind ", w.kind);
+        number(" replacement ", w.replacement);
+        number(" readings ", w.sent);
+        number(" ", w.received);
+    }
+    for (int i = 0; i < room; i++)
+        number(" ", area[i]);
+}
+
+// Frames of call 4: a length of two bytes, the call, three numbers, the body. No other call is asked here.
+static void probe(const uint8_t *input, int len)
+{
+    for (int at = 0; at + 2 <= len;) {
+        const uint8_t *frame = input + at + 2;
+        int size = u16(input + at);
+        if (size > len - at - 2)
+            size = len - at - 2;
+        at += 2 + size;
+        if (size < 4)
+            continue;
+        print_finding(frame[1], frame[2], frame[3], frame + 4, size - 4);
+        end_line();
+    }
+}
+
+static long offset_of(const uint8_t *entry) { return u16(entry) | (long)u16(entry + 2) << 16; }
+
+// Questions 20 to 25. Returns the number of the first no, or 0.
+static int judge_collection(const uint8_t *file, long len)
+{
+    if (len < 2)
+        return 20;
+    int c = u16(file);
+    if (c > 512)
+        return 21;
+    long end = 2 + 8 * c;
+    if (len < end)
+        return 22;
+    const uint8_t *entries = file + 2;
+    for (int i = 1; i < c; i++)
+        if (u16(entries + 8 * i + 6) <= u16(entries + 8 * i - 2))
+            return 23;
+    for (int i = 0; i < c; i++) {
+        if (offset_of(entries + 8 * i) != end)
+            return 24;
+        end += u16(entries + 8 * i + 4);
+    }
+    return end == len ? 0 : 25;
+}
+
+static void listing(const uint8_t *file, int len)
+{
+    int no = len > INPUT ? 26 : judge_collection(file, len);
+    if (no) {
+        number("collection refused ", no);
+        end_line();
+        return;
+    }
+    text("rule states class loss corruption repeat swap\n");
+    for (int i = 0; i < u16(file); i++) {
+        const uint8_t *entry = file + 2 + 8 * i;
+        number("", u16(entry + 6));
+        text(" ");
+        print_card(file + offset_of(entry), u16(entry + 4));
+        end_line();
+    }
+}
+
+int main(int argc, char **argv)
+{
+    static uint8_t input[INPUT + 1];
+    int len = (int)fread(input, 1, sizeof input, stdin);
+    if (argc == 2 && strcmp(argv[1], "listing") == 0)
+        listing(input, len);
+    else if (argc == 2 && strcmp(argv[1], "probe") == 0)
+        probe(input, len < INPUT ? len : INPUT);
+    else
+        return 2;
+    flush();
+    return 0;
+}

@@ -1,0 +1,117 @@
+"""The tables that are measured, by a fixed seed, and the inputs of the programs."""
+import itertools
+import random
+
+LIMIT = 65536
+QUESTIONS = list(itertools.product((3, 6), (1, 2, 4, 8, 15)))
+
+
+def body(k, start, marks, rows):
+    return bytes([len(marks), k, start, *marks, *itertools.chain(*rows)])
+
+
+def random_table(r, n, k):
+    """Any next states, but a mark, which few or many states have, is kept."""
+    chance = r.choice((0.05, 0.3))
+    marks = [r.choice((1, 2)) if r.random() < chance else 0 for _ in range(n)]
+    marks[0] = 0
+    alike = [[q for q in range(n) if marks[q] == v] for v in range(3)]
+    rows = [[r.choice(alike[v] if v else range(n)) for _ in range(k)] for v in marks]
+    return body(k, r.choice(alike[0]), marks, rows)
+
+
+def chain_table(r, n, k):
+    """A counter: the states stand in a row, and a message that stays the same for some states leads on to the next. The other messages lead to the first
+    state, to the state before, or nowhere. The last states are marked, so that a fault shows only after as many messages as there are states before them."""
+    marked = r.randint(1, max(1, n // 4))
+    marks = [0] * (n - marked) + [r.choice((1, 2))] * marked
+    others = [r.choice(("first", "before", "stay")) for _ in range(k)]
+    rows, on = [], r.randrange(k)
+    for q in range(n):
+        if r.random() < 0.1:
+            on = r.randrange(k)
+        row = [{"first": 0, "before": max(q - 1, 0), "stay": q}[other] for other in others]
+        row[on] = q + 1
+        rows.append(row if marks[q] == 0 else [min(q + 1, n - 1)] * k)
+    return body(k, 0, marks, rows)
+
+
+def small_table(r):
+    """As in the van: 3 to 8 states, 2 to 4 messages."""
+    return r.choice((random_table, chain_table))(r, r.randint(3, 8), r.randint(2, 4))
+
+
+def sets():
+    """The three sets of tables, each with its name."""
+    r = random.Random(1)
+    return {
+        "60 random, n = 64, k = 16": [random_table(r, 64, 16) for _ in range(60)],
+        "60 chains, n = 64, k = 2 to 16": [chain_table(r, 64, r.choice((2, 3, 4, 8, 16))) for _ in range(60)],
+        "400 small, n = 3 to 8, k = 2 to 4": [small_table(r) for _ in range(400)],
+    }
+
+
+def growth():
+    """Ten tables of each kind and size: (kind, n, k, tables)."""
+    r = random.Random(2)
+    for (kind, make), n, k in itertools.product((("random", random_table), ("chain", chain_table)), (8, 16, 32, 64), (2, 4, 8, 16)):
+        yield kind, n, k, [make(r, n, k) for _ in range(10)]
+
+
+def collection(bodies):
+    at, entries = 2 + 8 * len(bodies), b""
+    for rule, b in enumerate(bodies):
+        entries += at.to_bytes(4, "little") + len(b).to_bytes(2, "little") + rule.to_bytes(2, "little")
+        at += len(b)
+    return len(bodies).to_bytes(2, "little") + entries + b"".join(bodies)
+
+
+def batches(parts, overhead=0):
+    """The parts in order, in lists whose bytes, with so many more for each part, fit an input."""
+    batch, size = [], 2
+    for part in parts:
+        size += overhead + len(part)
+        if size > LIMIT:
+            yield batch
+            batch, size = [], 2 + overhead + len(part)
+        batch.append(part)
+    yield batch
+
+
+def collections(bodies):
+    """The tables as inputs of `listing`."""
+    return [collection(batch) for batch in batches(bodies, overhead=8)]
+
+
+def frame(call, numbers, b):
+    return (4 + len(b)).to_bytes(2, "little") + bytes([call, *numbers]) + b
+
+
+def questions(bodies):
+    """Ten fault questions to each table as inputs of `probe`: both readings, each fault alone and all together. Every witness fits an area of 2 * n."""
+    frames = [frame(4, (faults, reading, 2 * b[0]), b) for b in bodies for reading, faults in QUESTIONS]
+    return [b"".join(batch) for batch in batches(frames)]
+
+
+# ---- the same with nothing to work out, to measure start, input and printing
+
+
+def refused_tables(data, _):
+    """A collection with as many entries, whose bodies are empty."""
+    return collection([b""] * int.from_bytes(data[:2], "little"))
+
+
+def refused_questions(data, answers):
+    """As many questions with empty bodies, whose refusals `probe` prints by as many writes as these answers. A refusal takes four, a witness twelve, `immune` one,
+    a byte of the area two: so a witness is made up for by four bytes more, and `immune` by one and by two less in turn."""
+    frames, at, immune = [], 0, 0
+    for answer in answers.splitlines():
+        room = data[at + 5]
+        if answer.startswith(b"immune"):
+            immune += 1
+            room -= 1 + immune % 2
+        else:
+            room += 4
+        frames.append(frame(4, (15, 3, room), b""))
+        at += 2 + int.from_bytes(data[at : at + 2], "little")
+    return b"".join(frames)
