@@ -6,7 +6,7 @@ FILE ?= samples/sample.collection
 RULE ?=
 
 # Proves and builds a program; after the first time only what has changed.
-build = echo 'proving and building $(1): some minutes the first time' >&2; rt check $(1) > /dev/null
+build = echo 'proving and building $(1): some minutes the first time' >&2; said=$$(rt check $(1) 2>&1) || { printf '%s\n' "$$said" >&2; exit 1; }
 
 list:
 	@$(call build,listing)
@@ -32,7 +32,6 @@ test:
 
 # Not part of the tests: the speed beside two implementations in C.
 bench:
-	@$(call build,listing probe)
 	@bench/run
 
 .PHONY: list card test bench

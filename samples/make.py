@@ -33,7 +33,7 @@ RULES[3] = table("quiet alarm", {
     "raised": (TRUE, "raised"),
 })
 
-# Table B. The signal never drops. The mirror of rule 3: only false can be found.
+# Table B. The signal never drops. As rule 3 with the verdicts exchanged: only false can be found.
 RULES[8] = table("drop signal", {
     "watching": (NOT_YET, "dropped watching"),
     "dropped": (FALSE, "dropped"),
@@ -52,7 +52,7 @@ RULES[17] = table("pause answer", {
     "listening": (NOT_YET, "listening"),
 })
 
-# Main and spare answer in turn. The two states expect different messages, but they read alike for ever: immune, although a fault leads astray.
+# Main and spare answer in turn. The two states expect different messages, but they read alike for ever: immune, although a fault leads to the wrong state.
 RULES[19] = table("main spare", {
     "main": (NOT_YET, "spare main"),
     "spare": (NOT_YET, "spare main"),
@@ -96,7 +96,7 @@ RULES[44] = table("quiet alarm", {
     "10": (TRUE, "10"),
 })
 
-# Thirty silences in a row condemn the channel; any sound starts the count again. A chain where the order counts: swap does harm as well.
+# After thirty silences in a row the channel counts as failed; any sound starts the count again. A chain where the order counts: swap does harm as well.
 RULES[47] = table("silence sound", {
     **{str(i): (NOT_YET, f"{i + 1} 0") for i in range(30)},
     "30": (FALSE, "30"),

@@ -18,8 +18,8 @@ Witness = collections.namedtuple("Witness", "distance steps sent_reading receive
 
 
 # ---- series of steps
-# A plain step is (1, message), a fault step (0, kind, sent messages, replacement). So the order of tuples is the written order: a fault
-# step before a plain one; fault steps by kind, then sent messages, then replacement; plain steps by message.
+# A plain step is (1, message), a fault step (0, kind, sent messages, replacement). Tuples compare as the
+# specification orders steps.
 
 
 def fault_steps(k):

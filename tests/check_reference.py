@@ -1,4 +1,4 @@
-"""Checks reference.py against the paper's own facts and against a plain enumeration of traces."""
+"""Checks reference.py against the specification's own facts and against a plain enumeration of traces."""
 
 import itertools
 import random
@@ -94,7 +94,7 @@ def collections():
     first = bytes.fromhex("0300 1A00000009000100 230000000C000200 2F00000009000300")
     text = reference.HEADER + "1 2 pos 1 1 - -\n2 3 pos 2 2 1 3\n3 refused 6 4\n"
     data = first + A + E + A[:4] + b"\3" + A[5:]
-    check((len(data), listing(data)), (56, text), "the paper's listing")
+    check((len(data), listing(data)), (56, text), "the specification's listing")
     check(collection([(1, A), (2, E), (3, A[:4] + b"\3" + A[5:])]), data, "the collection's writer")
     rules = [(1, A), (2, B), (3, C), (4, D), (5, E), (6, G), (7, H), (8, b""), (9, b"\0"), (65535, bytes(range(6)))]
     lines = ("1 2 pos 1 1 - -/2 2 neg 1 1 - -/3 3 both 1 1 - 2/4 1 none - - - -/5 3 pos 2 2 1 3/6 5 both 2 2 1 3/"

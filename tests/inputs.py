@@ -2,7 +2,7 @@
 
 import reference
 from reference import INPUT_LIMIT
-from tables import A, B, D, E, PAPER, collection, damaged, far_table, in_a_row, late_repeat, packed, random_table, table
+from tables import A, B, D, E, NAMED, collection, damaged, far_table, in_a_row, late_repeat, packed, random_table, table
 
 ROOM = 1000         # an area that holds every answer
 WIDE = [2**8, 2**8 + 1, 2**16, 2**32, 2**32 + 3, 2**63, 2**64 - 1, 2**64, 2**64 + 1, 2**64 + 3, 2**64 + 6, 10**40]
@@ -18,9 +18,9 @@ def listing(data):
 
 # ---- valid tables ----------------------------------------------------------------------------------------
 
-def paper_tables(rng):
-    """The paper's tables: every set and reading, with areas that are just too short, fit, or have one byte more."""
-    for body in PAPER:
+def named_tables(rng):
+    """The specification's tables: every set and reading, with areas that are just too short, fit, or have one byte more."""
+    for body in NAMED:
         yield ask(body, "judge")
         yield from (ask(body, "classes", area) for area in range(body[0] + 2))
         for faults in range(16):
@@ -278,7 +278,7 @@ def altered_collections(rng):
 def counts_and_numbers(rng):
     """Counts around the limit, and rule numbers that are equal or fall at the first, the last or any entry."""
     for count in (0, 1, 2, 255, 256, 257, 511, 512, 513, 514, 768, 1024):
-        data = collection([(i, PAPER[i % len(PAPER)]) for i in range(count)])
+        data = collection([(i, NAMED[i % len(NAMED)]) for i in range(count)])
         yield from both(data)
         yield from both(data[:2 + 8 * count])
         yield from both(data[:max(0, 2 + 8 * count - 1)])
@@ -297,7 +297,7 @@ def counts_and_numbers(rng):
 def gaps_and_overlaps(rng):
     """Offsets and lengths that do not meet, alone and together with other faults."""
     for count in (1, 2, 3, 9):
-        bodies = [rng.choice(PAPER) for _ in range(count)]
+        bodies = [rng.choice(NAMED) for _ in range(count)]
         sound = collection(list(enumerate(bodies)))
         for entry in range(count):
             head = 2 + 8 * entry
@@ -324,7 +324,7 @@ def random_collections(rng):
         entries = []
         for rule in rules:
             noise = bytes(rng.randrange(8) for _ in range(rng.randint(0, 20)))
-            entries.append((rule, rng.choice([rng.choice(PAPER), b"", noise])))
+            entries.append((rule, rng.choice([rng.choice(NAMED), b"", noise])))
         data = collection(entries)
         yield from both(data)
         for _ in range(rng.choice([1, 1, 2, 3])):
@@ -352,7 +352,7 @@ def input_sizes(rng):
             yield ask(data, *rng.choice([["classes", 64], ["step", 3, 0, 0], ["fault", 16, 5, 0]]))
 
 
-GROUPS = [paper_tables, small_listings, listings_of_all_sizes, far_listings, witnesses_of_small_tables,
+GROUPS = [named_tables, small_listings, listings_of_all_sizes, far_listings, witnesses_of_small_tables,
           witnesses_of_all_sizes, areas_for_witnesses, classes_of_tables, steps_and_traces, damaged_in_listings,
           damaged_in_calls, lengths_and_counts, random_bytes, numbers_around_limits, leading_zeros, wrong_arguments,
           cut_collections, altered_collections, counts_and_numbers, gaps_and_overlaps, random_collections, input_sizes]

@@ -1,6 +1,6 @@
-"""The scope paper's rules on tables, faults and collections, written for clarity and not for speed.
+"""The specification's rules on tables, faults and collections, written for clarity and not for speed.
 
-The programs' answers are compared with these. Each function follows the paper's words; none of it is taken
+The programs' answers are compared with these. Each function follows its words; none of it is taken
 from the library. Bytes go in; an answer comes out or `Refused` is raised with a number and a place.
 """
 
@@ -119,8 +119,8 @@ def trace(body, reading, messages):
 
 # ---- the fault question ----------------------------------------------------------------------------------
 
-# A step's key. Keys compare as the paper orders steps: a fault step (0, ..) before a plain one (1, ..);
-# fault steps by kind, then sent messages, then replacement; plain steps by message.
+# A step's key: (0, kind, sent messages, replacement) for a fault step, (1, ..) for a plain one. Tuples compare as the
+# specification orders steps.
 
 def plain_step(message):
     return (1, 0, (message,), 0)

@@ -1,6 +1,6 @@
 """Makes tables and collections for the tests: valid ones of many shapes, and damaged ones."""
 
-# The paper's tables, and tables that separate right from wrong readings of its words.
+# The specification's tables, and tables that tell right from wrong readings of it.
 A = bytes([2, 2, 0, 0, 1, 0, 1, 1, 1])
 B = bytes([2, 2, 0, 0, 2, 1, 0, 1, 1])
 C = bytes([3, 4, 0, 0, 1, 2, 2, 0, 1, 1, 1, 1, 1, 1, 2, 2, 2, 2])
@@ -14,7 +14,7 @@ LOWER_TRACE_SWAPPED = bytes([3, 2, 0, 0, 0, 1, 1, 0, 2, 0, 2, 2])       # the sa
 UNREACHABLE_HARM = bytes([3, 2, 0, 1, 0, 2, 0, 0, 1, 2, 2, 2])
 UGLY_FURTHER_ON = bytes([3, 2, 0, 0, 1, 0, 1, 2, 1, 1, 2, 2])
 UGLY_UNREACHABLE = bytes([2, 1, 0, 1, 0, 0, 1])
-PAPER = [A, B, C, D, E, G, H, THREE_IN_A_ROW, LOWER_TRACE_HARMED, LOWER_TRACE_SWAPPED, UNREACHABLE_HARM,
+NAMED = [A, B, C, D, E, G, H, THREE_IN_A_ROW, LOWER_TRACE_HARMED, LOWER_TRACE_SWAPPED, UNREACHABLE_HARM,
          UGLY_FURTHER_ON, UGLY_UNREACHABLE]
 
 

@@ -11,7 +11,7 @@ use Rattle.arguments.specs.declared.Decimal.the-variants.{NotANumber, Nu
 abbrev pub isDigit : ℕ → Bool
 isDigit byte = leb 48 byte && leb byte 57
 
--- each byte is one
+-- each byte of the text is a digit
 unfoldable pub areDigits : List ℕ → Bool
 areDigits [] = true
 areDigits (byte ∷ text) = isDigit byte && areDigits text

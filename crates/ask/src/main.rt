@@ -13,10 +13,10 @@ const INPUT_LIMIT: usize = 65536;
 // The length of the program's own area, which every answer fits.
 const AREA_SIZE: usize = 65536;
 
-// The greatest number of messages in a trace: more than Linux hands over as arguments by its own limit of two million bytes.
+// The greatest number of messages in a trace: more than Linux hands over as arguments by its default limit of two million bytes.
 const MESSAGE_LIMIT: usize = 262144;
 
-// The messages of a trace stand in an array of their own.
+// A question and its numbers. The messages of a trace stand in an array of their own.
 enum Question {
     Judge,
     Classes {

@@ -47,7 +47,7 @@ fn is_there(file: &[u8], count: usize, rule: usize) -> bool {
     false
 }
 
-// The line of argument i if it names no rule, after the gap if that is still to come. Answers whether it still is.
+// Prints a line for argument i if no rule has that number, after an empty line where gap says so. Answers whether the empty line is still to come.
 fn missing_line(file: &[u8], count: usize, i: usize, gap: bool) -> bool {
     let Decimal::Number(rule) = arguments::number_at(i) else {
         return gap;
@@ -64,7 +64,7 @@ fn missing_line(file: &[u8], count: usize, i: usize, gap: bool) -> bool {
     false
 }
 
-// A line for each argument that names no rule. A gap parts the lines from cards before them.
+// A line for each argument that names no rule, with an empty line between the cards and the first of them.
 pub fn missing_lines(file: &[u8], count: usize, cards: bool) {
     let arguments = os::arg_count();
     let mut gap = cards;

@@ -83,7 +83,7 @@ fn card(rule: usize, body: &[u8]) {
     }
 }
 
-// The cards of the rules that are asked for, with a gap between any two. Answers whether there were any.
+// The cards of the rules that are asked for, with an empty line between two. Answers whether there were any.
 fn cards(file: &[u8], count: usize) -> bool {
     let mut shown = false;
     let mut i = 0;

@@ -11,8 +11,8 @@ use borrow.Author.Tests.{lt-ltb, le-ltb, eq-eqb, ne-eqb}
 use Rattle.collection.specs.Contents.{numberAt, countOf, entryOf, offsetOf, lengthOf, ruleOf, startOfBody, rises}
 
 -- a number of two bytes, and one of four made of two such
-pub pair-is : (l : List ℕ) (at : ℕ) {a b : ℕ} → a ≡ getD l at 0 → b ≡ getD l (at + 1) 0 → a + 256 * b ≡ numberAt 2 l at
-pair-is l at {a} {b} e f =
+pub two-bytes-are : (l : List ℕ) (at : ℕ) {a b : ℕ} → a ≡ getD l at 0 → b ≡ getD l (at + 1) 0 → a + 256 * b ≡ numberAt 2 l at
+two-bytes-are l at {a} {b} e f =
     let g : b ≡ getD l (suc at) 0 = f ∙ ap (λ (i : ℕ). getD l i 0) (add-one at) in
     omega (arith, e, g)
 
@@ -26,10 +26,10 @@ module _ (file : List ℕ) (i : ℕ) where
   pub entry-missing : {c : ℕ} → c ≡ countOf file → c ≤ i → [] ≡ entryOf file i
   entry-missing {c} e h = (let g : countOf file ≤ i = omega (arith, e, h) in rw (le-ltb i (countOf file) g))
 
-  pub rises-first : i ≡ 0 → true ≡ rises file i
+  pub rises-first : i ≡ 0 → true ≡ rises (ruleOf file) i
   rises-first e = rw (eq-eqb i 0 e)
 
-  pub rises-later : (i ≡ 0 → ⊥) → {a b : ℕ} → a ≡ ruleOf file (i - 1) → b ≡ ruleOf file i → ltb a b ≡ rises file i
+  pub rises-later : (i ≡ 0 → ⊥) → {a b : ℕ} → a ≡ ruleOf file (i - 1) → b ≡ ruleOf file i → ltb a b ≡ rises (ruleOf file) i
   rises-later h e f = rw (ne-eqb i 0 h, e, f)
 
   pub starts-first : {c : ℕ} → c ≡ countOf file → i ≡ 0 → 2 + 8 * c ≡ startOfBody file i

@@ -11,7 +11,7 @@ use Rattle.theory.specs.Answer.{answered, asks}
 use Rattle.theory.proofs.Below.{first-none}
 use Rattle.theory.proofs.Answer.{asks-yes}
 use Rattle.collection.proofs.Entries.{starts-later}
-use Rattle.collection.specs.Contents.{countOf, offsetOf, lengthOf, bodyOf, startOfBody, follows, passes, firstNo, question20, question21, question22, question23, question24, question25, collectionQuestions, collectionAnswer}
+use Rattle.collection.specs.Contents.{countOf, offsetOf, lengthOf, bodyOf, ruleOf, startOfBody, follows, firstNo, question20, question21, question22, question23, question24, question25, collectionQuestions, collectionAnswer}
 
 -- what holds of entry i: its body starts where it has to, ends in the file, and is all there
 pub record Placed (file : List ℕ) (i : ℕ) : Type 0 where
@@ -26,25 +26,25 @@ module _ (file : List ℕ) (accepted : collectionAnswer file ≡ answered (count
 
   -- what questions 24 and 25 leave
   record Ends : Type 0 where
-    four : firstNo file 24 (countOf file) ≡ countOf file
+    four : firstNo (follows file) (countOf file) ≡ countOf file
     five : length file ≡ startOfBody file (countOf file)
 
   ends : Ends
   ends =
       let v = countOf file ∷ [] in
-      let q₀ = asks-yes (question20 file) (question21 file ∷ question22 file ∷ question23 file ∷ question24 file ∷ question25 file ∷ []) v values in
-      let q₁ = asks-yes (question21 file) (question22 file ∷ question23 file ∷ question24 file ∷ question25 file ∷ []) v (q₀ .1) in
-      let q₂ = asks-yes (question22 file) (question23 file ∷ question24 file ∷ question25 file ∷ []) v (q₁ .1) in
-      let q₃ = asks-yes (question23 file) (question24 file ∷ question25 file ∷ []) v (q₂ .1) in
+      let q₀ = asks-yes (question20 file) (question21 (countOf file) ∷ question22 file ∷ question23 (ruleOf file) (countOf file) ∷ question24 file ∷ question25 file ∷ []) v values in
+      let q₁ = asks-yes (question21 (countOf file)) (question22 file ∷ question23 (ruleOf file) (countOf file) ∷ question24 file ∷ question25 file ∷ []) v (q₀ .1) in
+      let q₂ = asks-yes (question22 file) (question23 (ruleOf file) (countOf file) ∷ question24 file ∷ question25 file ∷ []) v (q₁ .1) in
+      let q₃ = asks-yes (question23 (ruleOf file) (countOf file)) (question24 file ∷ question25 file ∷ []) v (q₂ .1) in
       let q₄ = asks-yes (question24 file) (question25 file ∷ []) v (q₃ .1) in
       let q₅ = asks-yes (question25 file) [] v (q₄ .1) in
       record {
-        four = eqb-true (firstNo file 24 (countOf file)) (countOf file) (q₄ .0);
+        four = eqb-true (firstNo (follows file) (countOf file)) (countOf file) (q₄ .0);
         five = eqb-true (length file) (startOfBody file (countOf file)) (q₅ .0);
       }
 
   starts-at : (i : ℕ) → i < countOf file → offsetOf file i ≡ startOfBody file i
-  starts-at i h = eqb-true (offsetOf file i) (startOfBody file i) (not-false (follows file i) (first-none (λ j. not (passes file 24 j)) 0 (countOf file) i (ends .four ∙ sym (zero-add (countOf file))) zero-le (omega (arith, h))))
+  starts-at i h = eqb-true (offsetOf file i) (startOfBody file i) (not-false (follows file i) (first-none (λ j. not (follows file j)) 0 (countOf file) i (ends .four ∙ sym (zero-add (countOf file))) zero-le (omega (arith, h))))
 
   -- where body i ends, body i + 1 has to start
   next-start : (i : ℕ) → startOfBody file (i + 1) ≡ offsetOf file i + lengthOf file i

@@ -41,7 +41,7 @@ ruleOf file i = numberAt 2 (entryOf file i) 6
 abbrev pub bodyOf : List ℕ → ℕ → List ℕ
 bodyOf file i = take (lengthOf file i) (drop (offsetOf file i) file)
 
--- where body i has to start: the first behind the contents, "each later one where the previous ends"; with i = c, where the file has to end
+-- where body i has to start, as "the bodies follow in entry order without gaps": the first behind the contents, "each later one where the previous ends"; with i = c, where the file has to end
 abbrev pub startOfBody : List ℕ → ℕ → ℕ
 startOfBody file i = cond (eqb i 0) (contentsEnd file) (offsetOf file (i - 1) + lengthOf file (i - 1))
 
@@ -50,43 +50,40 @@ abbrev pub question20 : List ℕ → Question
 question20 file = record { yes = leb 2 (length file); number = 20; place = 0 }
 
 -- "is c at most 512?"
-abbrev pub question21 : List ℕ → Question
-question21 file = record { yes = leb (countOf file) 512; number = 21; place = 0 }
+abbrev pub question21 : ℕ → Question
+question21 c = record { yes = leb c 512; number = 21; place = 0 }
 
 -- "are all entries there?"
 abbrev pub question22 : List ℕ → Question
 question22 file = record { yes = leb (contentsEnd file) (length file); number = 22; place = 0 }
 
--- the rule number of entry i is "greater than the one before"; the first has none before it
-abbrev pub rises : List ℕ → ℕ → Bool
-rises file i = eqb i 0 || ltb (ruleOf file (i - 1)) (ruleOf file i)
+-- the rule number of entry i is "greater than the one before"; the first has none before it. `rule` gives the rule number of each entry.
+abbrev pub rises : (ℕ → ℕ) → ℕ → Bool
+rises rule i = eqb i 0 || ltb (rule (i - 1)) (rule i)
+
+-- the first of c entries that does not pass the test, or c
+abbrev pub firstNo : (ℕ → Bool) → ℕ → ℕ
+firstNo test c = first (λ i. not (test i)) 0 c
+
+-- "is each rule number greater than the one before?", the place "is the entry, from 0"
+abbrev pub question23 : (ℕ → ℕ) → ℕ → Question
+question23 rule c = ofEach 23 0 (firstNo (rises rule) c) c
 
 -- body i starts where it has to
 abbrev pub follows : List ℕ → ℕ → Bool
 follows file i = eqb (offsetOf file i) (startOfBody file i)
 
--- entry i answers question 23, or 24, with yes
-abbrev pub passes : List ℕ → ℕ → ℕ → Bool
-passes file question i = cond (eqb question 23) (rises file i) (follows file i)
-
--- the first of c entries that does not, or c
-abbrev pub firstNo : List ℕ → ℕ → ℕ → ℕ
-firstNo file question c = first (λ i. not (passes file question i)) 0 c
-
--- "is each rule number greater than the one before?", the place "is the entry, from 0"
-abbrev pub question23 : List ℕ → Question
-question23 file = ofEach 23 0 (firstNo file 23 (countOf file)) (countOf file)
-
 -- "does the first body start at 2 + 8 × c, and each later one where the previous ends?", the place likewise
 abbrev pub question24 : List ℕ → Question
-question24 file = ofEach 24 0 (firstNo file 24 (countOf file)) (countOf file)
+question24 file = ofEach 24 0 (firstNo (follows file) (countOf file)) (countOf file)
 
 -- "does the last body (with c = 0, the count) end the file?"
 abbrev pub question25 : List ℕ → Question
 question25 file = record { yes = eqb (length file) (startOfBody file (countOf file)); number = 25; place = 0 }
 
+-- in the written order: "23 is asked of all entries before 24"
 abbrev pub collectionQuestions : List ℕ → List Question
-collectionQuestions file = question20 file ∷ question21 file ∷ question22 file ∷ question23 file ∷ question24 file ∷ question25 file ∷ []
+collectionQuestions file = question20 file ∷ question21 (countOf file) ∷ question22 file ∷ question23 (ruleOf file) (countOf file) ∷ question24 file ∷ question25 file ∷ []
 
 -- "An accepted collection answers c; a body at fault does not refuse it."
 unfoldable pub collectionAnswer : List ℕ → Answer
@@ -96,3 +93,9 @@ collectionAnswer file = asks (collectionQuestions file) (countOf file ∷ [])
 abbrev pub collected : Collected → Answer
 collected (Accepted count) = answered (count ∷ [])
 collected (Refused r) = refused (r .number) (r .place)
+
+-- ---- layers
+
+-- the test of question 23, or else of 24
+abbrev pub testOf : List ℕ → ℕ → ℕ → Bool
+testOf file question i = cond (eqb question 23) (rises (ruleOf file) i) (follows file i)

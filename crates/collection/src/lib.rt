@@ -3,7 +3,7 @@ use monitor::Refusal;
 ghost use mathlib.Core.Path.{_≡_};
 ghost use Prim.Native.Nat.{_≤_, _<_};
 ghost use Rattle.theory.specs.Answer.{Answer};
-ghost use Rattle.collection.specs.Contents.{numberAt, countOf, entryOf, offsetOf, lengthOf, ruleOf, bodyOf, startOfBody, rises as Contents·rises, follows as Contents·follows, passes as Contents·passes, firstNo, collectionAnswer, collected};
+ghost use Rattle.collection.specs.Contents.{numberAt, countOf, entryOf, offsetOf, lengthOf, ruleOf, bodyOf, startOfBody, rises as Contents·rises, follows as Contents·follows, firstNo, testOf, collectionAnswer, collected};
 
 // The greatest number of entries.
 const ENTRY_LIMIT: usize = 512;
@@ -21,7 +21,7 @@ fn refused(number: usize, place: usize) -> Collected
 }
 
 // The number of two bytes from a place on.
-fn pair_at(bytes: &[u8], at: usize) -> usize
+fn two_bytes_at(bytes: &[u8], at: usize) -> usize
     requires { ⌜ at < 8 ⌝ }
     ensures { λ r. ⌜ (r ≡ numberAt 2 (now (bytes .entry)) at) × (r < 65536) ⌝ }
 {
@@ -32,7 +32,7 @@ fn pair_at(bytes: &[u8], at: usize) -> usize
 fn entry(file: &[u8], i: usize) -> &[u8]
     ensures { λ r. ⌜ now r ≡ entryOf (now (file .entry)) i ⌝ }
 {
-    if i < pair_at(file, 0) {
+    if i < two_bytes_at(file, 0) {
         return monitor::part(file, 2 + 8 * i, 8);
     }
     &file[0..0]
@@ -43,21 +43,21 @@ fn body_offset(file: &[u8], i: usize) -> usize
     ensures { λ r. ⌜ (r ≡ offsetOf (now (file .entry)) i) × (r < 4294967296) ⌝ }
 {
     let bytes = entry(file, i);
-    pair_at(bytes, 0) + 65536 * pair_at(bytes, 2)
+    two_bytes_at(bytes, 0) + 65536 * two_bytes_at(bytes, 2)
 }
 
 // The length that entry i gives its body.
 fn body_length(file: &[u8], i: usize) -> usize
     ensures { λ r. ⌜ (r ≡ lengthOf (now (file .entry)) i) × (r < 65536) ⌝ }
 {
-    pair_at(entry(file, i), 4)
+    two_bytes_at(entry(file, i), 4)
 }
 
 // The rule number of entry i, 0 if there is no entry i.
 pub fn rule_number(file: &[u8], i: usize) -> usize
     ensures { λ r. ⌜ (r ≡ ruleOf (now (file .entry)) i) × (r < 65536) ⌝ }
 {
-    pair_at(entry(file, i), 6)
+    two_bytes_at(entry(file, i), 6)
 }
 
 // The body of entry i, as far as the file has it: all of it in an accepted collection.
@@ -74,14 +74,14 @@ fn start_of_body(file: &[u8], i: usize) -> usize
     ensures { λ r. ⌜ r ≡ startOfBody (now (file .entry)) i ⌝ }
 {
     if i == 0 {
-        return 2 + 8 * pair_at(file, 0);
+        return 2 + 8 * two_bytes_at(file, 0);
     }
     body_offset(file, i - 1) + body_length(file, i - 1)
 }
 
 // Whether the rule number of entry i is greater than the one before.
 fn rises(file: &[u8], i: usize) -> bool
-    ensures { λ r. ⌜ r ≡ Contents·rises (now (file .entry)) i ⌝ }
+    ensures { λ r. ⌜ r ≡ Contents·rises (ruleOf (now (file .entry))) i ⌝ }
 {
     if i == 0 {
         return true;
@@ -98,7 +98,7 @@ fn follows(file: &[u8], i: usize) -> bool
 
 // Whether entry i answers question 23, or 24, with yes.
 fn passes(file: &[u8], question: usize, i: usize) -> bool
-    ensures { λ r. ⌜ r ≡ Contents·passes (now (file .entry)) question i ⌝ }
+    ensures { λ r. ⌜ r ≡ testOf (now (file .entry)) question i ⌝ }
 {
     if question == 23 {
         return rises(file, i);
@@ -108,7 +108,7 @@ fn passes(file: &[u8], question: usize, i: usize) -> bool
 
 // The first entry that answers the question with no, or the count.
 fn first_no(file: &[u8], question: usize, count: usize) -> usize
-    ensures { λ r. ⌜ r ≡ firstNo (now (file .entry)) question count ⌝ }
+    ensures { λ r. ⌜ r ≡ firstNo (testOf (now (file .entry)) question) count ⌝ }
 {
     let mut i = 0;
     while i < count {
@@ -128,7 +128,7 @@ pub fn judge(file: &[u8]) -> Collected
     if len < 2 {
         return refused(20, 0);
     }
-    let count = pair_at(file, 0);
+    let count = two_bytes_at(file, 0);
     if count > ENTRY_LIMIT {
         return refused(21, 0);
     }

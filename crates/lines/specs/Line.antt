@@ -17,11 +17,12 @@ use Rattle.collection.specs.Contents.{ruleOf, bodyOf}
 use Rattle.lines.specs.Text.{ascii, decimal}
 use Rattle.lines.specs.declared.Line.{Line}
 
--- a line: its fields, a space between two, and a line feed
+-- each field behind a space, and a line feed at the end
 abbrev pub fieldsBehind : List (List ℕ) → List ℕ
 fieldsBehind [] = ascii "\n"
 fieldsBehind (field ∷ fields) = ascii " " ++ field ++ fieldsBehind fields
 
+-- a line: its fields, a space between two, and a line feed
 abbrev pub lineText : List ℕ → List (List ℕ) → List ℕ
 lineText first fields = first ++ fieldsBehind fields
 
@@ -47,6 +48,7 @@ abbrev pub judgedLine : ℕ → Answer → Monitor → List ℕ
 judgedLine rule (refused code place) m = refusalLine rule code place
 judgedLine rule (answered values) m = cardLine rule m
 
+-- the line of a rule and its body
 abbrev pub ruleLine : ℕ → ℕ → List ℕ → List ℕ
 ruleLine limit rule body = judgedLine rule (judgeAnswer limit body) (monitorOf body)
 
@@ -64,6 +66,10 @@ lined (Line.Written l) = answered (l ∷ [])
 lined (Line.Refused r) = refused (r .number) (r .place)
 
 -- ---- layers
+
+-- longer than every line: seven fields of at most 20 bytes with a byte behind each are 147
+abbrev pub lineRoom : ℕ
+lineRoom = 256
 
 -- a text was put behind the first `at` bytes of a buffer and ends at `to`
 pub record Put (text before : List ℕ) (at : ℕ) (after : List ℕ) (to : ℕ) : Type 0 where

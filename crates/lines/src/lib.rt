@@ -10,10 +10,10 @@ ghost use lib.ListN.{length};
 ghost use Rattle.theory.specs.Answer.{written};
 ghost use Rattle.theory.specs.Monitor.{stateLimit};
 ghost use Rattle.lines.specs.Text.{ascii, decimal};
-ghost use Rattle.lines.specs.Line.{monitorabilityText, findingText, shownLine, refusalLine, ruleLine, entryLine, lineAnswer, lined, Put};
+ghost use Rattle.lines.specs.Line.{monitorabilityText, findingText, shownLine, refusalLine, ruleLine, entryLine, lineAnswer, lined, lineRoom, Put};
 
-// Longer than every line: seven fields of at most 20 bytes, and a byte behind each.
-const LINE_ROOM: usize = 160;
+// `lineRoom` in specs/Line.antt.
+const LINE_ROOM: usize = 256;
 
 // A line's length, or 13.
 pub enum Line {
@@ -79,7 +79,7 @@ fn put_distance(finding: Finding, buffer: &mut [u8], at: usize) -> usize
 
 // The line of a rule with a card.
 fn put_card(rule: usize, card: LinkCard, buffer: &mut [u8]) -> usize
-    requires { ⌜ 160 ≤ length (now buffer) ⌝ }
+    requires { ⌜ lineRoom ≤ length (now buffer) ⌝ }
     ensures { λ r. ⌜ Put (shownLine rule card) (now (buffer .entry)) 0 (now (buffer .exit)) r ⌝ }
 {
     let loss = card.loss;
@@ -98,7 +98,7 @@ fn put_card(rule: usize, card: LinkCard, buffer: &mut [u8]) -> usize
 
 // The line of a rule whose body is refused.
 fn put_refusal(rule: usize, refusal: Refusal, buffer: &mut [u8]) -> usize
-    requires { ⌜ 160 ≤ length (now buffer) ⌝ }
+    requires { ⌜ lineRoom ≤ length (now buffer) ⌝ }
     ensures { λ r. ⌜ Put (refusalLine rule (refusal .number) (refusal .place)) (now (buffer .entry)) 0 (now (buffer .exit)) r ⌝ }
 {
     let mut at = put_number(rule, buffer, 0);
@@ -110,7 +110,7 @@ fn put_refusal(rule: usize, refusal: Refusal, buffer: &mut [u8]) -> usize
 
 // The line of a rule with its body.
 fn put_rule(rule: usize, body: &[u8], buffer: &mut [u8]) -> usize
-    requires { ⌜ 160 ≤ length (now buffer) ⌝ }
+    requires { ⌜ lineRoom ≤ length (now buffer) ⌝ }
     ensures { λ r. ⌜ Put (ruleLine stateLimit rule (now (body .entry))) (now (buffer .entry)) 0 (now (buffer .exit)) r ⌝ }
 {
     match immunity::card(body) {
@@ -119,7 +119,7 @@ fn put_rule(rule: usize, body: &[u8], buffer: &mut [u8]) -> usize
     }
 }
 
-// Writes the line of entry i into the area.
+// Writes the line of entry i into the area; where there is no entry i, that of rule 0 with an empty body. It does not judge the collection.
 pub fn write_line(file: &[u8], i: usize, area: &mut [u8]) -> Line
     ensures figures { λ r. ⌜ lined r ≡ lineAnswer stateLimit (now (file .entry)) i (length (now (area .entry))) ⌝ }
     ensures area { λ _. ⌜ now (area .exit) ≡ written (lineAnswer stateLimit (now (file .entry)) i (length (now (area .entry)))) (entryLine stateLimit (now (file .entry)) i) (now (area .entry)) ⌝ }

@@ -1,4 +1,4 @@
-// The words and lines that programs print. No contract can say what is written: programs compare their output with a stored one.
+// The words and lines that programs print. No contract can say what is written; the output of programs is compared with a stored one.
 use classes::Classification;
 use collection::Collected;
 use immunity::Carded;

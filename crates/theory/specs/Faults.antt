@@ -1,4 +1,4 @@
--- The faults of a link as fault steps. Only these definitions say what a kind of fault does; the card names the kinds by their bits, and all others are about any fault step.
+-- The faults of a link as fault steps. Only these definitions say what a kind of fault does; the cards and the listing name the kinds by their bits, and all else is about any fault step.
 use mathlib.Core.Bool.{Bool, cond}
 use mathlib.Core.List.{List, [], _∷_}
 use Prim.Native.Nat.{ℕ, zero, suc, _-_, _/_, _%_, _^_}

@@ -12,11 +12,11 @@ use Rattle.collection.proofs.body_offset.Tie as tie
 entry-requires : tie.Need-entry-requires
 entry-requires c κs = search needs
 
-pair-at-requires : tie.Need-pair-at-requires
-pair-at-requires c κs = search needs
+two-bytes-at-requires : tie.Need-two-bytes-at-requires
+two-bytes-at-requires c κs = search needs
 
-pair-at-requires-2 : tie.Need-pair-at-requires-2
-pair-at-requires-2 c κs = search needs
+two-bytes-at-requires-2 : tie.Need-two-bytes-at-requires-2
+two-bytes-at-requires-2 c κs = search needs
 
 mul-result : tie.Need-mul-result
 mul-result c = search needs
@@ -25,9 +25,9 @@ add-result : tie.Need-add-result
 add-result c = search needs
 
 returns : tie.Need-returns
-returns c = (four-is (c .before .before .entry .result .now) (c .before .pair-at .ensures .0) (c .pair-at2 .ensures .0) ∙ ap (λ (l : List ℕ). numberAt 4 l 0) (c .before .before .entry .ensures), omega (arith, c .before .pair-at .ensures .1, c .pair-at2 .ensures .1))
+returns c = (four-is (c .before .before .entry .result .now) (c .before .two-bytes-at .ensures .0) (c .two-bytes-at2 .ensures .0) ∙ ap (λ (l : List ℕ). numberAt 4 l 0) (c .before .before .entry .ensures), omega (arith, c .before .two-bytes-at .ensures .1, c .two-bytes-at2 .ensures .1))
 
 pub body-offset-spec : {M : Type 1} → statement M
 body-offset-spec =
     tie.close
-    (tie.spec entry-requires pair-at-requires pair-at-requires-2 mul-result add-result returns)
+    (tie.spec entry-requires two-bytes-at-requires two-bytes-at-requires-2 mul-result add-result returns)

@@ -5,8 +5,8 @@ use borrow.Author.Needs.{needs}
 use Rattle.collection.proofs.entry.Statement.{statement}
 use Rattle.collection.proofs.entry.Tie as tie
 
-pair-at-requires : tie.Need-pair-at-requires
-pair-at-requires c κs = search needs
+two-bytes-at-requires : tie.Need-two-bytes-at-requires
+two-bytes-at-requires c κs = search needs
 
 mul-part : tie.Need-mul-part
 mul-part c = search needs
@@ -18,7 +18,7 @@ part-requires : tie.Need-part-requires
 part-requires c κs = search needs
 
 returns : tie.Need-returns
-returns c = c .part .ensures ∙ entry-there (c .before .before .before .before .args .file .now) (c .before .before .before .before .args .i) (c .before .before .pair-at .ensures .0) (c .before .if1 .taken)
+returns c = c .part .ensures ∙ entry-there (c .before .before .before .before .args .file .now) (c .before .before .before .before .args .i) (c .before .before .two-bytes-at .ensures .0) (c .before .if1 .taken)
 
 sub-result : tie.Need-sub-result
 sub-result c = search needs
@@ -30,13 +30,13 @@ part-result-end : tie.Need-part-result-end
 part-result-end c = search needs
 
 returns-2 : tie.Need-returns-2
-returns-2 c = entry-missing (c .before .before .before .before .args .file .now) (c .before .before .before .before .args .i) (c .before .before .pair-at .ensures .0) (c .before .if1 .left)
+returns-2 c = entry-missing (c .before .before .before .before .args .file .now) (c .before .before .before .before .args .i) (c .before .before .two-bytes-at .ensures .0) (c .before .if1 .left)
 
 pub entry-spec : {M : Type 1} → statement M
 entry-spec =
     tie.close
     (tie.spec
-    pair-at-requires
+    two-bytes-at-requires
     mul-part
     add-part
     part-requires

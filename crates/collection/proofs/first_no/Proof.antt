@@ -4,12 +4,12 @@ use Prim.Native.Nat.{_-_}
 use native.Mathlib.Omega.{arith}
 use borrow.Author.Needs.{needs}
 use Rattle.theory.proofs.Scan.{Passed, scan-begins, scan-goes-on, scan-finds, scan-ends}
-use Rattle.collection.specs.Contents.{passes}
+use Rattle.collection.specs.Contents.{testOf}
 use Rattle.collection.proofs.first_no.Statement.{statement}
 use Rattle.collection.proofs.first_no.Tie as tie
 
 abbrev Inv-loop : tie.InvT-loop
-Inv-loop file question count i₀ i = Passed (λ j. not (passes file question j)) 0 count i
+Inv-loop file question count i₀ i = Passed (λ j. not (testOf file question j)) 0 count i
 
 abbrev μ-loop : tie.MeasureT-loop
 μ-loop file question count i₀ i = count - i

@@ -1,5 +1,4 @@
 -- `follows` meets its contract.
-
 use borrow.Author.Needs.{needs}
 use Rattle.collection.proofs.follows.Statement.{statement}
 use Rattle.collection.proofs.follows.Tie as tie

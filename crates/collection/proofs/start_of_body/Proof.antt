@@ -4,8 +4,8 @@ use borrow.Author.Needs.{needs}
 use Rattle.collection.proofs.start_of_body.Statement.{statement}
 use Rattle.collection.proofs.start_of_body.Tie as tie
 
-pair-at-requires : tie.Need-pair-at-requires
-pair-at-requires c κs = search needs
+two-bytes-at-requires : tie.Need-two-bytes-at-requires
+two-bytes-at-requires c κs = search needs
 
 mul-result : tie.Need-mul-result
 mul-result c = search needs
@@ -14,7 +14,7 @@ add-result : tie.Need-add-result
 add-result c = search needs
 
 returns : tie.Need-returns
-returns c = starts-first (c .before .before .before .args .file .now) (c .before .before .before .args .i) (c .pair-at .ensures .0) (c .before .if1 .taken)
+returns c = starts-first (c .before .before .before .args .file .now) (c .before .before .before .args .i) (c .two-bytes-at .ensures .0) (c .before .if1 .taken)
 
 sub-body-offset : tie.Need-sub-body-offset
 sub-body-offset c = search needs
@@ -38,7 +38,7 @@ pub start-of-body-spec : {M : Type 1} → statement M
 start-of-body-spec =
     tie.close
     (tie.spec
-    pair-at-requires
+    two-bytes-at-requires
     mul-result
     add-result
     returns

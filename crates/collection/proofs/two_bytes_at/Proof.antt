@@ -1,9 +1,9 @@
--- `pair_at` meets its contract.
+-- `two_bytes_at` meets its contract.
 use native.Mathlib.Omega.{arith}
-use Rattle.collection.proofs.Entries.{pair-is}
+use Rattle.collection.proofs.Entries.{two-bytes-are}
 use borrow.Author.Needs.{needs}
-use Rattle.collection.proofs.pair_at.Statement.{statement}
-use Rattle.collection.proofs.pair_at.Tie as tie
+use Rattle.collection.proofs.two_bytes_at.Statement.{statement}
+use Rattle.collection.proofs.two_bytes_at.Tie as tie
 
 byte-at-requires : tie.Need-byte-at-requires
 byte-at-requires c κs = search needs
@@ -21,9 +21,9 @@ add-result : tie.Need-add-result
 add-result c = search needs
 
 returns : tie.Need-returns
-returns c = (pair-is (c .before .before .before .args .bytes .now) (c .before .before .before .args .at) (c .before .byte-at .ensures .0) (c .byte-at2 .ensures .0), omega (arith, c .before .byte-at .ensures .1, c .byte-at2 .ensures .1))
+returns c = (two-bytes-are (c .before .before .before .args .bytes .now) (c .before .before .before .args .at) (c .before .byte-at .ensures .0) (c .byte-at2 .ensures .0), omega (arith, c .before .byte-at .ensures .1, c .byte-at2 .ensures .1))
 
-pub pair-at-spec : {M : Type 1} → statement M
-pair-at-spec =
+pub two-bytes-at-spec : {M : Type 1} → statement M
+two-bytes-at-spec =
     tie.close
     (tie.spec byte-at-requires add-byte-at byte-at-requires-2 mul-result add-result returns)
