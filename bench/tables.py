@@ -93,7 +93,7 @@ def questions(bodies):
     return [b"".join(batch) for batch in batches(frames)]
 
 
-# ---- the same with nothing to work out, to measure start, input and printing
+# ---- the same with nothing to work out, to measure start and printing
 
 
 def refused_tables(data, _):

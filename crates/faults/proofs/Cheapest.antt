@@ -1,24 +1,21 @@
--- The first of the cheapest fault steps of a list, put together from those of its parts.
+-- The cheapest fault step of a list, put together from those of its parts.
 use mathlib.Core.Path.{_≡_, refl, sym, ap, ap₂, _∙_, subst}
-use mathlib.Core.Bool.{Bool, true, false, cond}
 use mathlib.Core.List.{List, [], _∷_, _++_}
-use mathlib.Core.Logic.{⊎-elim}
-use Prim.Native.Nat.{ℕ, _+_, _≤_, _<_}
-use native.Mathlib.Nat.{le-trans, le-antisymm, le-of-lt, le-of-eq, lt-of-lt-of-le, not-suc-le-zero, le-of-suc-le-suc, eq-or-lt-of-le}
+use mathlib.Core.Logic.{inl, ⊎-elim}
+use Prim.Native.Nat.{ℕ, _+_, _≤_, _<_, min}
+use native.Mathlib.Nat.{le-refl, le-antisymm, le-of-eq, lt-of-lt-of-le, not-suc-le-zero, le-of-suc-le-suc, eq-or-lt-of-le}
 use native.Mathlib.Numerals.{add-one}
 use native.Mathlib.Omega.{arith}
-use lib.Dec.{eqb, ltb}
 use lib.ListN.{length, getD, set, length-set}
 use lib.Seq.{getD-set-same, getD-set-other}
-use borrow.Author.Tests.{ltb-true, ltb-false, eqb-true, eq-eqb, ne-eqb}
-use Rattle.theory.specs.Lists.{In, find, each}
+use Rattle.theory.specs.Lists.{In, each}
 use Rattle.theory.specs.Automaton.{Automaton, run}
 use Rattle.theory.specs.Monitor.{stateLimit}
 use Rattle.theory.specs.Faults.{FaultStep}
-use Rattle.theory.proofs.Lists.{in-either, find-in, find-none, find-later, find-here}
+use Rattle.theory.proofs.Below.{lt-or-le}
+use Rattle.theory.proofs.Lists.{in-left, in-right, in-either}
 use Rattle.pairs.specs.Square.{never, entry}
-use Rattle.faults.specs.declared.Choice.{Choice}
-use Rattle.faults.specs.Steps.{stepFor, Ranged, plus, costOf, Best, Cheapest, Costs}
+use Rattle.faults.specs.Steps.{plus, costOf, Cheapest, Costs}
 
 -- ---- the cost of a step
 
@@ -30,74 +27,45 @@ pub cost-is : (g : Automaton) (d : List ℕ) (p : ℕ) (s : FaultStep) {x y l e 
     → x ≡ run g p (s .sent) → y ≡ run g p (s .received) → l ≡ length (s .sent) → e ≡ entry d x y → plus l e ≡ costOf g d p s
 cost-is g d p s sent received long held = ap₂ plus long (held ∙ ap₂ (entry d) sent received)
 
--- the test by which the first is found
-abbrev costing : Automaton → List ℕ → ℕ → ℕ → FaultStep → Bool
-costing g d p cost s = eqb (costOf g d p s) cost
-
--- ---- the best of no step, of one, and of two lists
+-- ---- the cheapest of no step, of one, and of two lists
 
 module _ {g : Automaton} {d : List ℕ} {p : ℕ} where
-  pub best-none : (c : Choice) → c .cost ≡ never → Best g d p [] c
-  best-none c e = record {
-    most = omega arith;
-    least = λ s i. absurd i;
-    first = λ l. absurd (omega arith);
-    ranged = λ l. absurd (omega arith);
+  pub cheapest-none : Cheapest g d p [] never
+  cheapest-none = record { most = le-refl never; least = λ s i. absurd i; attained = λ l. absurd (omega (arith, l)) }
+
+  pub cheapest-one : {cost : ℕ} (s : FaultStep) → cost ≡ costOf g d p s → Cheapest g d p (s ∷ []) cost
+  cheapest-one s e = record {
+    most = omega (arith, e, plus-most (length (s .sent)) (entry d (run g p (s .sent)) (run g p (s .received))));
+    least = λ t i. ⊎-elim (λ (q : t ≡ s). le-of-eq (e ∙ ap (costOf g d p) (sym q))) (λ j. absurd j) i;
+    attained = λ l. (s, inl refl, sym e);
   }
 
-  pub best-one : (c : Choice) (s : FaultStep) → stepFor (c .fault) ≡ s → c .cost ≡ costOf g d p (stepFor (c .fault)) → Ranged (g .symbols) (c .fault) → Best g d p (s ∷ []) c
-  unfolding find
-  best-one c s is e r = record {
-    most = omega (arith, e, plus-most (length (stepFor (c .fault) .sent)) (entry d (run g p (stepFor (c .fault) .sent)) (run g p (stepFor (c .fault) .received))));
-    least = λ t i. ⊎-elim (λ (q : t ≡ s). le-of-eq (e ∙ ap (costOf g d p) (is ∙ sym q))) (λ j. absurd j) i;
-    first = λ l. rw (eq-eqb (costOf g d p s) (c .cost) (sym (e ∙ ap (costOf g d p) is)), is);
-    ranged = λ l. r;
+  cheapest-append : {xs ys : List FaultStep} {a b : ℕ} → Cheapest g d p xs a → Cheapest g d p ys b → Cheapest g d p (xs ++ ys) (min b a)
+  cheapest-append {xs} {ys} {a} {b} x y = record {
+    most = omega (arith, x .most);
+    least = λ s i. ⊎-elim (λ j. (let l = x .least s j in omega (arith, l))) (λ j. (let l = y .least s j in omega (arith, l))) (in-either s xs ys i);
+    attained = λ l. ⊎-elim (later l) (here l) (lt-or-le b a);
   }
-
-  pub best-append : {xs ys : List FaultStep} {a b : Choice} → Best g d p xs a → Best g d p ys b → Best g d p (xs ++ ys) (cond (ltb (b .cost) (a .cost)) b a)
-  best-append {xs} {ys} {a} {b} x y = go (ltb (b .cost) (a .cost)) refl
     where
-      later : b .cost < a .cost → (s : FaultStep) → In s xs → costing g d p (b .cost) s ≡ false
-      later l s i = ne-eqb (costOf g d p s) (b .cost) (λ e. omega (arith, e, l, x .least s i))
+      later : min b a < never → b < a → (s : FaultStep) × In s (xs ++ ys) × (costOf g d p s ≡ min b a)
+      later l h = (let m : b ≡ min b a = omega (arith, h) in let r = y .attained (omega (arith, l, h)) in (r .0, in-right (r .0) xs ys (r .1), r .2 ∙ m))
 
-      go : (t : Bool) → ltb (b .cost) (a .cost) ≡ t → Best g d p (xs ++ ys) (cond t b a)
-      go true h =
-          let l = ltb-true (b .cost) (a .cost) h in
-          record {
-            most = y .most;
-            least = λ s i. ⊎-elim (λ j. le-trans (le-of-lt l) (x .least s j)) (y .least s) (in-either s xs ys i);
-            first = λ some. find-later (costing g d p (b .cost)) xs ys (find-none (costing g d p (b .cost)) xs (later l)) ∙ y .first some;
-            ranged = y .ranged;
-          }
-      go false h =
-          let l = ltb-false (b .cost) (a .cost) h in
-          record {
-            most = x .most;
-            least = λ s i. ⊎-elim (x .least s) (λ j. le-trans l (y .least s j)) (in-either s xs ys i);
-            first = λ some. find-here (costing g d p (a .cost)) xs ys (x .first some);
-            ranged = x .ranged;
-          }
+      here : min b a < never → a ≤ b → (s : FaultStep) × In s (xs ++ ys) × (costOf g d p s ≡ min b a)
+      here l h = (let m : a ≡ min b a = omega (arith, h) in let r = x .attained (omega (arith, l, h)) in (r .0, in-left (r .0) xs ys (r .1), r .2 ∙ m))
 
   -- ---- the lists of 0, 1, .. one after the other, as a loop goes through them
 
   module _ (f : ℕ → List FaultStep) where
-    pub best-begin : (c : Choice) → c .cost ≡ never → Best g d p (each 0 f) c
+    pub cheapest-begin : Cheapest g d p (each 0 f) never
     unfolding each
-    best-begin = best-none
+    cheapest-begin = cheapest-none
 
-    pub best-turn : {i : ℕ} {a b c : Choice} → Best g d p (each i f) a → Best g d p (f i) b → c ≡ cond (ltb (b .cost) (a .cost)) b a → Best g d p (each (i + 1) f) c
+    pub cheapest-turn : {i a b c : ℕ} → Cheapest g d p (each i f) a → Cheapest g d p (f i) b → c ≡ min b a → Cheapest g d p (each (i + 1) f) c
     unfolding each
-    best-turn {i} x y e = rw (add-one i, e) (best-append x y)
+    cheapest-turn {i} x y e = rw (add-one i, e) (cheapest-append x y)
 
-    pub best-end : {i n : ℕ} {c : Choice} → Best g d p (each i f) c → i ≤ n → n ≤ i → Best g d p (each n f) c
-    best-end {c = c} x l h = subst (λ (j : ℕ). Best g d p (each j f) c) (le-antisymm l h) x
-
-  pub best-cheapest : {steps : List FaultStep} {c : Choice} → Best g d p steps c → Cheapest g d p steps (c .cost)
-  best-cheapest {steps} {c} x = record {
-    most = x .most;
-    least = x .least;
-    attained = λ l. (let r = find-in (costing g d p (c .cost)) steps (x .first l) in (stepFor (c .fault), r .0, eqb-true (costOf g d p (stepFor (c .fault))) (c .cost) (r .1)));
-  }
+    pub cheapest-end : {i n c : ℕ} → Cheapest g d p (each i f) c → i ≤ n → n ≤ i → Cheapest g d p (each n f) c
+    cheapest-end {c = c} x l h = subst (λ (j : ℕ). Cheapest g d p (each j f) c) (le-antisymm l h) x
 
 -- ---- the costs of all states
 

@@ -1,3 +1,4 @@
 pub mod AtMostTwo
 pub mod ByKind
 pub mod Cheapest
+pub mod Found

@@ -1,18 +1,18 @@
--- Fault steps as the search handles them, and what the best of them costs at a state.
+-- Fault steps as the search handles them, and what the cheapest of them costs at a state.
 use mathlib.Core.Path.{_≡_}
+use mathlib.Core.Bool.{Bool}
 use mathlib.Core.List.{List, [], _∷_}
-use mathlib.Core.Option.{some}
 use Prim.Native.Nat.{ℕ, _+_, _≤_, _<_, min}
-use lib.Dec.{eqb}
+use lib.Dec.{eqb, ltb}
 use lib.ListN.{length, getD, take}
-use Rattle.theory.specs.Lists.{In, find}
+use Rattle.theory.specs.Below.{first}
+use Rattle.theory.specs.Lists.{In}
 use Rattle.theory.specs.Automaton.{Automaton, run}
 use Rattle.theory.specs.Monitor.{stateLimit}
-use Rattle.theory.specs.Faults.{FaultStep}
+use Rattle.theory.specs.Faults.{FaultStep, stepOf, seconds}
 use Rattle.pairs.specs.Square.{never, entry}
 use Rattle.faults.specs.declared.Symbols.{Symbols}
 use Rattle.faults.specs.declared.Fault.{Fault}
-use Rattle.faults.specs.declared.Choice.{Choice}
 
 -- the symbols as a trace
 abbrev pub symbolsOf : Symbols → List ℕ
@@ -41,12 +41,17 @@ plus l e = min (l + e) never
 abbrev pub costOf : Automaton → List ℕ → ℕ → FaultStep → ℕ
 costOf g d p s = plus (length (s .sent)) (entry d (run g p (s .sent)) (run g p (s .received)))
 
--- c chooses the first of the cheapest of the steps at p; where none has a cost, only that is said
-pub record Best (g : Automaton) (d : List ℕ) (p : ℕ) (steps : List FaultStep) (c : Choice) : Type 0 where
-  pub most : c .cost ≤ never
-  pub least : (s : FaultStep) → In s steps → c .cost ≤ costOf g d p s
-  pub first : c .cost < never → find (λ s. eqb (costOf g d p s) (c .cost)) steps ≡ some (stepFor (c .fault))
-  pub ranged : c .cost < never → Ranged (g .symbols) (c .fault)
+-- the fault step s costs this at p
+abbrev pub costing : Automaton → List ℕ → ℕ → ℕ → FaultStep → Bool
+costing g d p cost s = eqb (costOf g d p s) cost
+
+-- the first replacement or neighbour with which the step of this rank at symbol a costs this, or how many there are
+abbrev pub secondWith : Automaton → List ℕ → ℕ → ℕ → ℕ → ℕ → ℕ
+secondWith g d p cost rank a = first (λ b. costing g d p cost (stepOf rank a b)) 0 (seconds rank (g .symbols))
+
+-- the first symbol with which some step of this rank costs this, or how many symbols there are
+abbrev pub firstWith : Automaton → List ℕ → ℕ → ℕ → ℕ → ℕ
+firstWith g d p cost rank = first (λ a. ltb (secondWith g d p cost rank a) (seconds rank (g .symbols))) 0 (g .symbols)
 
 -- a cost that no step undercuts and, where it is not never, some step has
 pub record Cheapest (g : Automaton) (d : List ℕ) (p : ℕ) (steps : List FaultStep) (cost : ℕ) : Type 0 where

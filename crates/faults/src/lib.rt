@@ -5,18 +5,18 @@ use theory::STATE_LIMIT;
 ghost use mathlib.Core.Path.{_≡_};
 ghost use mathlib.Core.Bool.{cond};
 ghost use mathlib.Core.List.{[], _∷_};
+ghost use mathlib.Core.Option.{some};
 ghost use Prim.Native.Nat.{ℕ, _+_, _≤_, _<_};
 ghost use lib.ListN.{length};
 ghost use lib.Seq.{sets};
-ghost use lib.Dec.{ltb};
 ghost use lib.Bits.{bitOr};
-ghost use Rattle.theory.specs.Lists.{each};
+ghost use Rattle.theory.specs.Lists.{find, each};
 ghost use Rattle.theory.specs.Automaton.{run};
 ghost use Rattle.theory.specs.Monitor.{stateLimit, symbolLimit};
 ghost use Rattle.theory.specs.Faults.{kinds, stepOf, seconds, holds, stepsOfKind, steps};
 ghost use Rattle.monitor.specs.Format.{Rows, automatonOf};
 ghost use Rattle.pairs.specs.Square.{never};
-ghost use Rattle.faults.specs.Steps.{symbolsOf, stepFor, Inside, Ranged, costOf, Best, Costs};
+ghost use Rattle.faults.specs.Steps.{symbolsOf, stepFor, Inside, Ranged, costOf, costing, secondWith, firstWith, Cheapest, Costs};
 
 // How many kinds of fault there are.
 const KINDS: usize = 4;
@@ -77,12 +77,6 @@ pub struct Fault {
     pub sent: Symbols,
     pub received: Symbols,
     pub replacement: usize,
-}
-
-// A fault step, and the fewest symbols sent by a harmful series that begins with it.
-pub struct Choice {
-    pub cost: usize,
-    pub fault: Fault,
 }
 
 // Whether the set has the kind of this rank.
@@ -187,26 +181,8 @@ fn cost_of(
     monitor::least_of(fault.sent.count + pairs::entry_at(square, x, y), NEVER)
 }
 
-// The cheaper of two choices, the first where they cost the same.
-fn cheaper(a: Choice, b: Choice) -> Choice
-    ensures { λ r. ⌜ r ≡ cond (ltb (b .cost) (a .cost)) b a ⌝ }
-{
-    if b.cost < a.cost {
-        return b;
-    }
-    a
-}
-
-// The choice where there is no fault step: it costs NEVER, and its fault is not looked at.
-fn no_choice() -> Choice
-    ensures { λ r. ⌜ r .cost ≡ never ⌝ }
-{
-    let fault = fault_of(0, 0, 0);
-    Choice { cost: NEVER, fault }
-}
-
-// The cheapest fault of a kind at p with the given first symbol.
-fn best_second(
+// What the cheapest fault of a kind at p with the given first symbol costs.
+fn cost_from(
     square: &[u16; SQUARE_SIZE],
     nexts: &[u8],
     n: usize,
@@ -214,45 +190,44 @@ fn best_second(
     p: usize,
     rank: usize,
     first: usize,
-) -> Choice
+) -> usize
     requires { ⌜ Rows stateLimit n k (now nexts) × (p < n) × (rank < kinds) × (first < k) ⌝ }
-    ensures { λ r. ⌜ Best (automatonOf n k (now (nexts .entry))) (now (square .entry)) p (each (seconds rank k) (λ b. stepOf rank first b ∷ [])) r ⌝ }
+    ensures { λ r. ⌜ Cheapest (automatonOf n k (now (nexts .entry))) (now (square .entry)) p (each (seconds rank k) (λ b. stepOf rank first b ∷ [])) r ⌝ }
 {
     let count = seconds_of(rank, k);
-    let mut best = no_choice();
+    let mut least = NEVER;
     let mut second = 0;
     while second < count {
         let fault = fault_of(rank, first, second);
-        let cost = cost_of(square, nexts, n, k, p, fault);
-        best = cheaper(best, Choice { cost, fault });
+        least = monitor::least_of(cost_of(square, nexts, n, k, p, fault), least);
         second += 1;
     }
-    best
+    least
 }
 
-// The cheapest fault of a kind at p.
-fn best_of_kind(
+// What the cheapest fault of a kind at p costs.
+fn cost_of_kind(
     square: &[u16; SQUARE_SIZE],
     nexts: &[u8],
     n: usize,
     k: usize,
     p: usize,
     rank: usize,
-) -> Choice
+) -> usize
     requires { ⌜ Rows stateLimit n k (now nexts) × (p < n) × (rank < kinds) ⌝ }
-    ensures { λ r. ⌜ Best (automatonOf n k (now (nexts .entry))) (now (square .entry)) p (stepsOfKind k rank) r ⌝ }
+    ensures { λ r. ⌜ Cheapest (automatonOf n k (now (nexts .entry))) (now (square .entry)) p (stepsOfKind k rank) r ⌝ }
 {
-    let mut best = no_choice();
+    let mut least = NEVER;
     let mut first = 0;
     while first < k {
-        best = cheaper(best, best_second(square, nexts, n, k, p, rank, first));
+        least = monitor::least_of(cost_from(square, nexts, n, k, p, rank, first), least);
         first += 1;
     }
-    best
+    least
 }
 
-// The same where the set has the kind, else no choice.
-fn best_if_held(
+// The same where the set has the kind, else NEVER.
+fn cost_if_held(
     square: &[u16; SQUARE_SIZE],
     nexts: &[u8],
     n: usize,
@@ -260,35 +235,35 @@ fn best_if_held(
     set: usize,
     p: usize,
     rank: usize,
-) -> Choice
+) -> usize
     requires { ⌜ Rows stateLimit n k (now nexts) × (p < n) × (rank < kinds) ⌝ }
-    ensures { λ r. ⌜ Best (automatonOf n k (now (nexts .entry))) (now (square .entry)) p (cond (holds set rank) (stepsOfKind k rank) []) r ⌝ }
+    ensures { λ r. ⌜ Cheapest (automatonOf n k (now (nexts .entry))) (now (square .entry)) p (cond (holds set rank) (stepsOfKind k rank) []) r ⌝ }
 {
     if has_kind(set, rank) {
-        return best_of_kind(square, nexts, n, k, p, rank);
+        return cost_of_kind(square, nexts, n, k, p, rank);
     }
-    no_choice()
+    NEVER
 }
 
-// The cheapest fault of the set at p, the first in the written order.
-pub fn best(
+// What the cheapest fault of the set costs at p.
+fn cost_at(
     square: &[u16; SQUARE_SIZE],
     nexts: &[u8],
     n: usize,
     k: usize,
     set: usize,
     p: usize,
-) -> Choice
+) -> usize
     requires { ⌜ Rows stateLimit n k (now nexts) × (p < n) ⌝ }
-    ensures { λ r. ⌜ Best (automatonOf n k (now (nexts .entry))) (now (square .entry)) p (steps set k) r ⌝ }
+    ensures { λ r. ⌜ Cheapest (automatonOf n k (now (nexts .entry))) (now (square .entry)) p (steps set k) r ⌝ }
 {
-    let mut best = no_choice();
+    let mut least = NEVER;
     let mut rank = 0;
     while rank < KINDS {
-        best = cheaper(best, best_if_held(square, nexts, n, k, set, p, rank));
+        least = monitor::least_of(cost_if_held(square, nexts, n, k, set, p, rank), least);
         rank += 1;
     }
-    best
+    least
 }
 
 // What the cheapest fault of the set costs at every state.
@@ -305,9 +280,104 @@ pub fn costs(
     let mut costs = [NEVER; STATE_LIMIT];
     let mut p = 0;
     while p < n {
-        let choice = best(square, nexts, n, k, set, p);
-        costs[p] = choice.cost;
+        costs[p] = cost_at(square, nexts, n, k, set, p);
         p += 1;
     }
     costs
+}
+
+// The first replacement or neighbour with which the fault of a kind at p with the given first symbol costs this much, or how many there are.
+fn second_with(
+    square: &[u16; SQUARE_SIZE],
+    nexts: &[u8],
+    n: usize,
+    k: usize,
+    p: usize,
+    rank: usize,
+    first: usize,
+    cost: usize,
+) -> usize
+    requires { ⌜ Rows stateLimit n k (now nexts) × (p < n) × (rank < kinds) × (first < k) ⌝ }
+    ensures { λ r. ⌜ r ≡ secondWith (automatonOf n k (now (nexts .entry))) (now (square .entry)) p cost rank first ⌝ }
+{
+    let count = seconds_of(rank, k);
+    let mut second = 0;
+    while second < count {
+        let fault = fault_of(rank, first, second);
+        if cost_of(square, nexts, n, k, p, fault) == cost {
+            return second;
+        }
+        second += 1;
+    }
+    second
+}
+
+// The first symbol with which some fault of a kind at p costs this much, or k.
+fn first_with(
+    square: &[u16; SQUARE_SIZE],
+    nexts: &[u8],
+    n: usize,
+    k: usize,
+    p: usize,
+    rank: usize,
+    cost: usize,
+) -> usize
+    requires { ⌜ Rows stateLimit n k (now nexts) × (p < n) × (rank < kinds) ⌝ }
+    ensures { λ r. ⌜ r ≡ firstWith (automatonOf n k (now (nexts .entry))) (now (square .entry)) p cost rank ⌝ }
+{
+    let count = seconds_of(rank, k);
+    let mut first = 0;
+    while first < k {
+        if second_with(square, nexts, n, k, p, rank, first, cost) < count {
+            return first;
+        }
+        first += 1;
+    }
+    first
+}
+
+// The same where the set has the kind, else k.
+fn first_if_held(
+    square: &[u16; SQUARE_SIZE],
+    nexts: &[u8],
+    n: usize,
+    k: usize,
+    set: usize,
+    p: usize,
+    rank: usize,
+    cost: usize,
+) -> usize
+    requires { ⌜ Rows stateLimit n k (now nexts) × (p < n) × (rank < kinds) ⌝ }
+    ensures { λ r. ⌜ r ≡ cond (holds set rank) (firstWith (automatonOf n k (now (nexts .entry))) (now (square .entry)) p cost rank) k ⌝ }
+{
+    if has_kind(set, rank) {
+        return first_with(square, nexts, n, k, p, rank, cost);
+    }
+    k
+}
+
+// The first fault of the set, in the written order, that costs what the cheapest at p does.
+pub fn fault_with(
+    square: &[u16; SQUARE_SIZE],
+    nexts: &[u8],
+    n: usize,
+    k: usize,
+    set: usize,
+    p: usize,
+    cost: usize,
+) -> Fault
+    requires { ⌜ Rows stateLimit n k (now nexts) × (p < n) × (cost < never) × Cheapest (automatonOf n k (now nexts)) (now square) p (steps set k) cost ⌝ }
+    ensures first { λ r. ⌜ find (costing (automatonOf n k (now (nexts .entry))) (now (square .entry)) p cost) (steps set k) ≡ some (stepFor r) ⌝ }
+    ensures ranged { λ r. ⌜ Ranged k r ⌝ }
+{
+    let mut rank = 0;
+    while rank < KINDS {
+        let first = first_if_held(square, nexts, n, k, set, p, rank, cost);
+        if first < k {
+            let second = second_with(square, nexts, n, k, p, rank, first, cost);
+            return fault_of(rank, first, second);
+        }
+        rank += 1;
+    }
+    fault_of(0, 0, 0)
 }

@@ -2,12 +2,10 @@
 use mathlib.Core.Path.{_≡_, sym, ap, _∙_, subst}
 use mathlib.Core.Bool.{Bool}
 use mathlib.Core.List.{List, [], _∷_, _++_}
-use mathlib.Core.Logic.{⊎-elim}
 use mathlib.Core.Option.{some}
 use Prim.Native.Nat.{ℕ, suc, _+_, _≤_, _<_}
-use native.Mathlib.Nat.{add-zero, add-suc, suc-add, le-antisymm}
+use native.Mathlib.Nat.{add-zero, add-suc, suc-add}
 use native.Mathlib.Omega.{arith}
-use lib.Dec.{eqb}
 use lib.ListN.{length, getD, set}
 use lib.Seq.{sets, length-sets}
 use borrow.Author.Tests.{eqb-true}
@@ -16,7 +14,6 @@ use Rattle.theory.specs.Automaton.{Automaton, Closed, run}
 use Rattle.theory.specs.Faults.{FaultStep, steps}
 use Rattle.theory.specs.Series.{Series, sentTrace, receivedTrace}
 use Rattle.theory.specs.Computed.{firstHarmful}
-use Rattle.theory.proofs.Below.{lt-or-le}
 use Rattle.theory.proofs.Lists.{find-in, some-same}
 use Rattle.theory.proofs.Witness.{run-parts, sent-length}
 use Rattle.monitor.specs.Format.{Rows, automatonOf}
@@ -24,8 +21,8 @@ use Rattle.monitor.proofs.Rows.{next-of-rows}
 use Rattle.pairs.specs.Square.{never, entry, Squared, path}
 use Rattle.pairs.proofs.Path.{path-length}
 use Rattle.faults.specs.declared.Symbols.{Symbols}
-use Rattle.faults.specs.declared.Choice.{Choice}
-use Rattle.faults.specs.Steps.{stepFor, Inside, Ranged, costOf, Best, Costs}
+use Rattle.faults.specs.declared.Fault.{Fault}
+use Rattle.faults.specs.Steps.{stepFor, Inside, Ranged, costOf, costing, Costs}
 use Rattle.faults.proofs.AtMostTwo.{count-is}
 use Rattle.totals.specs.Totals.{Relaxed, approach}
 use Rattle.immunity.specs.Findings.{seriesFigures}
@@ -38,28 +35,6 @@ sets-append l i (x ∷ xs) ys = ap (λ (j : ℕ). sets (sets (set l i x) (suc i)
 pub inside-wider : {k m : ℕ} {s : Symbols} → Inside k s → k ≤ m → Inside m s
 inside-wider i l = record { count-most = i .count-most; first-in = omega (arith, i .first-in); second-in = omega (arith, i .second-in) }
 
--- the best choice at a state costs what the state costs
-pub best-cost : {g : Automaton} {d costs : List ℕ} {faults : List FaultStep} {n q : ℕ} {c : Choice} → Costs g d faults n costs → q < n → Best g d q faults c → c .cost ≡ getD costs q 0
-best-cost {g} {d} {costs} {faults} {n} {q} {c} cs l b = le-antisymm below above
-  where
-    below : c .cost ≤ getD costs q 0
-    below =
-        ⊎-elim
-        (λ s. (let a = cs .each q l .attained s in let x = b .least (a .0) (a .1) in let y = a .2 in omega (arith, x, y)))
-        (λ s. (let x = b .most in omega (arith, x, s)))
-        (lt-or-le (getD costs q 0) never)
-
-    above : getD costs q 0 ≤ c .cost
-    above =
-        ⊎-elim
-        (λ s.
-        let f = find-in (λ t. eqb (costOf g d q t) (c .cost)) faults (b .first s) in
-        let x = cs .each q l .least (stepFor (c .fault)) (f .0) in
-        let y = eqb-true (costOf g d q (stepFor (c .fault))) (c .cost) (f .1) in
-        omega (arith, x, y))
-        (λ s. (let x = cs .each q l .most in omega (arith, x, s)))
-        (lt-or-le (c .cost) never)
-
 -- what a search has made: the square, the costs and the totals
 pub record Searched (g : Automaton) (ends : ℕ → ℕ → Bool) (set : ℕ) (d costs v : List ℕ) : Type 0 where
   pub closed : Closed g
@@ -67,53 +42,45 @@ pub record Searched (g : Automaton) (ends : ℕ → ℕ → Bool) (set : ℕ) (d
   pub costs-are : Costs g d (steps set (g .symbols)) (g .states) costs
   pub relaxed : Relaxed g costs v
 
--- `count` symbols lead from the start to `state`, where c is the best choice
-pub record Chosen (g : Automaton) (set : ℕ) (d costs v : List ℕ) (start state count : ℕ) (c : Choice) : Type 0 where
+-- `count` symbols lead from the start to `state`, where the fault is the first that costs what the state does
+pub record Chosen (g : Automaton) (set : ℕ) (d costs v : List ℕ) (start state count : ℕ) (fault : Fault) : Type 0 where
   pub start-in : start < g .states
   pub low : getD v start 0 < never
   pub is-count : count ≡ length (approach g v costs (getD v start 0) start)
   pub is-state : state ≡ run g start (approach g v costs (getD v start 0) start)
   pub state-in : state < g .states
   pub is-cost : count + getD costs state 0 ≡ getD v start 0
-  pub best : Best g d state (steps set (g .symbols)) c
+  pub picked : find (costing g d state (getD costs state 0)) (steps set (g .symbols)) ≡ some (stepFor fault)
+  pub ranged : Ranged (g .symbols) fault
 
 pub searched : (set : ℕ) {limit n k : ℕ} {ts d costs v : List ℕ} {ends : ℕ → ℕ → Bool} → Rows limit n k ts → Squared (automatonOf n k ts) ends d → Costs (automatonOf n k ts) d (steps set k) n costs → Relaxed (automatonOf n k ts) costs v
     → Searched (automatonOf n k ts) ends set d costs v
 searched set r q c t = record { closed = next-of-rows r; squared = q; costs-are = c; relaxed = t }
 
-pub chosen : {g : Automaton} {ends : ℕ → ℕ → Bool} {set : ℕ} {d costs v : List ℕ} → Searched g ends set d costs v → (start : ℕ) {state count : ℕ} {c : Choice} → start < g .states → getD v start 0 < never
+pub chosen : {g : Automaton} {ends : ℕ → ℕ → Bool} {set : ℕ} {d costs v : List ℕ} → Searched g ends set d costs v → (start : ℕ) {state count : ℕ} {fault : Fault} → start < g .states → getD v start 0 < never
     → count ≡ length (approach g v costs (getD v start 0) start) → state ≡ run g start (approach g v costs (getD v start 0) start) → state < g .states → count + getD costs state 0 ≡ getD v start 0
-    → Best g d state (steps set (g .symbols)) c → Chosen g set d costs v start state count c
-chosen h start l low n s i e b = record { start-in = l; low = low; is-count = n; is-state = s; state-in = i; is-cost = e; best = b }
+    → (find (costing g d state (getD costs state 0)) (steps set (g .symbols)) ≡ some (stepFor fault)) × Ranged (g .symbols) fault → Chosen g set d costs v start state count fault
+chosen h start l low n s i e f = record { start-in = l; low = low; is-count = n; is-state = s; state-in = i; is-cost = e; picked = f .0; ranged = f .1 }
 
-module _ {g : Automaton} {ends : ℕ → ℕ → Bool} {set : ℕ} {d costs v : List ℕ} {start state count : ℕ} {c : Choice} (h : Searched g ends set d costs v) (k : Chosen g set d costs v start state count c) where
+module _ {g : Automaton} {ends : ℕ → ℕ → Bool} {set : ℕ} {d costs v : List ℕ} {start state count : ℕ} {fault : Fault} (h : Searched g ends set d costs v) (k : Chosen g set d costs v start state count fault) where
   abbrev way : List ℕ
   way = approach g v costs (getD v start 0) start
 
   abbrev step : FaultStep
-  step = stepFor (c .fault)
+  step = stepFor fault
 
   abbrev apart : ℕ
   apart = entry d (run g state (step .sent)) (run g state (step .received))
 
-  cheap : c .cost < never
-  cheap = (let x = best-cost (h .costs-are) (k .state-in) (k .best) in let y = k .is-cost in let z = k .low in omega (arith, x, y, z))
-
-  pub made-ranged : Ranged (g .symbols) (c .fault)
-  made-ranged = k .best .ranged cheap
-
   -- how many symbols the fault covers
-  covers : c .fault .sent .count ≡ length (step .sent)
-  covers = count-is (c .fault .sent) (made-ranged .sent-in .count-most)
-
-  picked : find (λ s. eqb (costOf g d state s) (getD costs state 0)) (steps set (g .symbols)) ≡ some step
-  picked = subst (λ (x : ℕ). find (λ s. eqb (costOf g d state s) x) (steps set (g .symbols)) ≡ some step) (best-cost (h .costs-are) (k .state-in) (k .best)) (k .best .first cheap)
+  covers : fault .sent .count ≡ length (step .sent)
+  covers = count-is (fault .sent) (k .ranged .sent-in .count-most)
 
   -- what is covered and what is still to be sent are the cost
   made-cost : length (step .sent) + apart ≡ getD costs state 0
   made-cost =
-      let f = find-in (λ s. eqb (costOf g d state s) (getD costs state 0)) (steps set (g .symbols)) picked in
-      cost-sum (length (step .sent)) apart (getD costs state 0) (eqb-true (costOf g d state step) (getD costs state 0) (f .1)) (let x = best-cost (h .costs-are) (k .state-in) (k .best) in let y = cheap in omega (arith, x, y))
+      let f = find-in (costing g d state (getD costs state 0)) (steps set (g .symbols)) (k .picked) in
+      cost-sum (length (step .sent)) apart (getD costs state 0) (eqb-true (costOf g d state step) (getD costs state 0) (f .1)) (omega (arith, k .is-cost, k .low))
 
   made-sum : count + (length (step .sent) + apart) ≡ getD v start 0
   made-sum = (let x = made-cost in omega (arith, x, k .is-cost))
@@ -121,7 +88,7 @@ module _ {g : Automaton} {ends : ℕ → ℕ → Bool} {set : ℕ} {d costs v : 
   made-low : apart < never
   made-low = (let x = made-sum in omega (arith, x, k .low))
 
-  pub made-at : count + c .fault .sent .count ≤ getD v start 0
+  pub made-at : count + fault .sent .count ≤ getD v start 0
   made-at = (let x = made-sum in let y = covers in omega (arith, x, y))
 
   -- the trace fits where the total does
@@ -129,7 +96,7 @@ module _ {g : Automaton} {ends : ℕ → ℕ → Bool} {set : ℕ} {d costs v : 
   made-fits area e l = (let x = made-sum in let y = ap length e ∙ length-sets area 0 way in omega (arith, x, y, l))
 
   pub made-fits-on : (area : List ℕ) {one two : List ℕ} {p q : ℕ} → one ≡ sets area 0 way → two ≡ sets one count (step .sent)
-      → p ≡ run g state (step .sent) → q ≡ run g state (step .received) → getD v start 0 ≤ length area → count + c .fault .sent .count + entry d p q ≤ length two
+      → p ≡ run g state (step .sent) → q ≡ run g state (step .received) → getD v start 0 ≤ length area → count + fault .sent .count + entry d p q ≤ length two
   made-fits-on area {one} e₁ e₂ ep eq l =
       let x = made-sum in
       let y = ap length e₂ ∙ length-sets one count (step .sent) ∙ ap length e₁ ∙ length-sets area 0 way in
@@ -143,8 +110,8 @@ module _ {g : Automaton} {ends : ℕ → ℕ → Bool} {set : ℕ} {d costs v : 
 
   made-first : firstHarmful g ends (steps set (g .symbols)) start ≡ some made
   made-first =
-      subst (λ (q : ℕ). find (λ s. eqb (costOf g d q s) (getD costs q 0)) (steps set (g .symbols)) ≡ some step → firstHarmful g ends (steps set (g .symbols)) start ≡ some (record { before = way; fault = step; after = path g d (entry d (run g q (step .sent)) (run g q (step .received))) (run g q (step .sent)) (run g q (step .received)) })) (sym (k .is-state))
-      (search-finds set (h .closed) (h .squared) (h .costs-are) (h .relaxed) start step (k .start-in) (k .low)) picked
+      subst (λ (q : ℕ). find (costing g d q (getD costs q 0)) (steps set (g .symbols)) ≡ some step → firstHarmful g ends (steps set (g .symbols)) start ≡ some (record { before = way; fault = step; after = path g d (entry d (run g q (step .sent)) (run g q (step .received))) (run g q (step .sent)) (run g q (step .received)) })) (sym (k .is-state))
+      (search-finds set (h .closed) (h .squared) (h .costs-are) (h .relaxed) start step (k .start-in) (k .low)) (k .picked)
 
   -- the first series is the one made
   pub made-is : {s : Series} → firstHarmful g ends (steps set (g .symbols)) start ≡ some s → made ≡ s
@@ -152,7 +119,7 @@ module _ {g : Automaton} {ends : ℕ → ℕ → Bool} {set : ℕ} {d costs v : 
 
   -- the three parts written one after the other
   pub made-written : {s : Series} (area : List ℕ) {one two three : List ℕ} {p q : ℕ} → firstHarmful g ends (steps set (g .symbols)) start ≡ some s → one ≡ sets area 0 way → two ≡ sets one count (step .sent)
-      → p ≡ run g state (step .sent) → q ≡ run g state (step .received) → three ≡ sets two (count + c .fault .sent .count) (path g d (entry d p q) p q) → three ≡ sets area 0 (sentTrace s)
+      → p ≡ run g state (step .sent) → q ≡ run g state (step .received) → three ≡ sets two (count + fault .sent .count) (path g d (entry d p q) p q) → three ≡ sets area 0 (sentTrace s)
   made-written {s} area {two = two} {p = p} {q = q} e h₁ h₂ ep eq h₃ =
       h₃
       ∙ ap (λ (j : ℕ). sets two (count + j) (path g d (entry d p q) p q)) covers
@@ -166,7 +133,7 @@ module _ {g : Automaton} {ends : ℕ → ℕ → Bool} {set : ℕ} {d costs v : 
   pub made-figures : {s : Series} (outs : List ℕ) {x y p q : ℕ} → firstHarmful g ends (steps set (g .symbols)) start ≡ some s
       → p ≡ run g state (step .sent) → q ≡ run g state (step .received)
       → x ≡ run g p (path g d (entry d p q) p q) → y ≡ run g q (path g d (entry d p q) p q)
-      → _≡_ {A = List ℕ} (getD v start 0 ∷ count ∷ c .fault .bit ∷ c .fault .replacement ∷ getD outs x 0 ∷ getD outs y 0 ∷ []) (seriesFigures (λ r. getD outs r 0) g start s)
+      → _≡_ {A = List ℕ} (getD v start 0 ∷ count ∷ fault .bit ∷ fault .replacement ∷ getD outs x 0 ∷ getD outs y 0 ∷ []) (seriesFigures (λ r. getD outs r 0) g start s)
   made-figures {s} outs e ep eq ex ey =
       rw (distance, k .is-count, ex, ey, ep, eq, sent, received) (ap (seriesFigures (λ r. getD outs r 0) g start) (made-is e))
     where

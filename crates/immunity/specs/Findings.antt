@@ -62,16 +62,6 @@ finding (Refused r) = refused (r .number) (r .place)
 finding Immune = answered []
 finding (Vulnerable w) = answered (witnessValues w)
 
--- ---- layers
-
--- the first harmful series of n states and k symbols that read `outs` and have the next states `ts`
-abbrev pub firstOf : ℕ → ℕ → List ℕ → List ℕ → ℕ → ℕ → Option Series
-firstOf n k outs ts set start = firstHarmful (automatonOf n k ts) (differing outs) (steps set k) start
-
--- what they answer for an area of `room` bytes
-abbrev pub answerOf : ℕ → ℕ → List ℕ → List ℕ → ℕ → ℕ → ℕ → Answer
-answerOf n k outs ts set start room = asks (roomQuestions (firstOf n k outs ts set start) room) (witnessFigures (λ q. getD outs q 0) (automatonOf n k ts) start (firstOf n k outs ts set start))
-
 -- ---- the card
 
 -- the answer of a card: the number and place of a refusal; or n, the monitorability, and an answer for each of loss, corruption, repeat and swap
@@ -100,3 +90,13 @@ cardValues c = shown (c .states) (c .monitorability) (finding (c .loss)) (findin
 abbrev pub carded : Carded → CardAnswer
 carded (Carded.Card c) = cardValues c
 carded (Carded.Refused r) = cardRefused (r .number) (r .place)
+
+-- ---- layers
+
+-- the first harmful series of n states and k symbols that read `outs` and have the next states `ts`
+abbrev pub firstOf : ℕ → ℕ → List ℕ → List ℕ → ℕ → ℕ → Option Series
+firstOf n k outs ts set start = firstHarmful (automatonOf n k ts) (differing outs) (steps set k) start
+
+-- what they answer for an area of `room` bytes
+abbrev pub answerOf : ℕ → ℕ → List ℕ → List ℕ → ℕ → ℕ → ℕ → Answer
+answerOf n k outs ts set start room = asks (roomQuestions (firstOf n k outs ts set start) room) (witnessFigures (λ q. getD outs q 0) (automatonOf n k ts) start (firstOf n k outs ts set start))

@@ -72,8 +72,7 @@ fn witness_of(
     let approach = totals::write_before(totals, costs, nexts, n, k, start, area);
     let state = approach.state;
     let count = approach.count;
-    let choice = faults::best(square, nexts, n, k, set, state);
-    let fault = choice.fault;
+    let fault = faults::fault_with(square, nexts, n, k, set, state, costs[state]);
     faults::write_symbols(fault.sent, area, count);
     let p = faults::after(nexts, n, k, state, fault.sent);
     let q = faults::after(nexts, n, k, state, fault.received);

@@ -6,7 +6,7 @@ use borrow.Author.Needs.{needs}
 use Rattle.theory.specs.Faults.{steps}
 use Rattle.monitor.specs.Format.{automatonOf}
 use Rattle.faults.specs.Steps.{Costs}
-use Rattle.faults.proofs.Cheapest.{best-cheapest, costs-none, costs-more, costs-end}
+use Rattle.faults.proofs.Cheapest.{costs-none, costs-more, costs-end}
 use Rattle.faults.proofs.costs.Statement.{statement}
 use Rattle.faults.proofs.costs.Tie as tie
 
@@ -19,8 +19,8 @@ abbrev μ-loop : tie.MeasureT-loop
 loop-holds : tie.Need-loop-holds Inv-loop μ-loop
 loop-holds c = costs-none _ refl
 
-best-requires : tie.Need-best-requires Inv-loop μ-loop
-best-requires c κs = search needs
+cost-at-requires : tie.Need-cost-at-requires Inv-loop μ-loop
+cost-at-requires c κs = search needs
 
 mul-costs : tie.Need-mul-costs Inv-loop μ-loop
 mul-costs c = search needs
@@ -35,7 +35,7 @@ loop-less : tie.Need-loop-less Inv-loop μ-loop
 loop-less c = search needs
 
 loop-again : tie.Need-loop-again Inv-loop μ-loop
-loop-again c = costs-more (lt-of-lt-of-le (c .before .loop-test .taken) (c .before .before .before .before .pre .states-most)) (c .before .before .loop .inv) (best-cheapest (c .best .ensures))
+loop-again c = costs-more (lt-of-lt-of-le (c .before .loop-test .taken) (c .before .before .before .before .pre .states-most)) (c .before .before .loop .inv) (c .cost-at .ensures)
 
 returns : tie.Need-returns Inv-loop μ-loop
 returns c = costs-end (c .before .loop .inv) (c .loop-test .left)
@@ -47,7 +47,7 @@ costs-spec =
     Inv-loop
     μ-loop
     loop-holds
-    best-requires
+    cost-at-requires
     mul-costs
     array-write-costs
     add-p

@@ -1,0 +1,23 @@
+-- `cost_if_held` meets its contract: the kind's steps, or none.
+use mathlib.Core.Path.{sym, _∙_}
+use borrow.Author.Needs.{needs}
+use Rattle.faults.proofs.Cheapest.{cheapest-none}
+use Rattle.faults.proofs.cost_if_held.Statement.{statement}
+use Rattle.faults.proofs.cost_if_held.Tie as tie
+
+has-kind-requires : tie.Need-has-kind-requires
+has-kind-requires c κs = search needs
+
+cost-of-kind-requires : tie.Need-cost-of-kind-requires
+cost-of-kind-requires c κs = search needs
+
+returns : tie.Need-returns
+returns c = rw (sym (c .before .before .has-kind .ensures) ∙ c .before .if1 .taken) (c .cost-of-kind .ensures)
+
+returns-2 : tie.Need-returns-2
+returns-2 c = rw (sym (c .before .has-kind .ensures) ∙ c .if1 .left) cheapest-none
+
+pub cost-if-held-spec : {M : Type 1} → statement M
+cost-if-held-spec =
+    tie.close
+    (tie.spec has-kind-requires cost-of-kind-requires returns returns-2)
