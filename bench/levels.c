@@ -320,21 +320,11 @@ static void write_apart(const struct search *m, int *x, int *y, int left, uint8_
 
 static struct witness witness_of(const struct search *m, int set, int total, uint64_t where, uint8_t *area)
 {
-    const uint8_t *next = m->t->next;
-    int k = m->t->k, p, at = write_before(m, where, area, &p);
+    int p, at = write_before(m, where, area, &p);
     struct choice c = cheapest(m, set, p, total - at);
     struct witness w = {.distance = total, .before = at, .kind = c.kind, .replacement = c.kind == CORRUPTION ? c.second : 0};
-    int x = next[p * k + c.first], y = p;
-    area[at++] = c.first;
-    if (c.kind == CORRUPTION)
-        y = next[p * k + c.second];
-    else if (c.kind == REPEAT)
-        y = next[x * k + c.first];
-    else if (c.kind == SWAP) {
-        y = next[next[p * k + c.second] * k + c.first];
-        x = next[x * k + c.second];
-        area[at++] = c.second;
-    }
+    int x, y;
+    at += strike(m->t, p, c.kind, c.first, c.second, &x, &y, area + at);
     write_apart(m, &x, &y, total - at, area + at);
     w.sent = m->outputs[x];
     w.received = m->outputs[y];

@@ -180,17 +180,8 @@ static struct witness witness_of(const struct table *t, const uint8_t *outputs, 
     }
     struct choice c = cheapest(t, s, set, p);
     struct witness w = {.distance = totals[t->start], .before = at, .kind = c.kind, .replacement = c.kind == CORRUPTION ? c.second : 0};
-    int x = next[p * k + c.first], y = p;
-    area[at++] = c.first;
-    if (c.kind == CORRUPTION)
-        y = next[p * k + c.second];
-    else if (c.kind == REPEAT)
-        y = next[x * k + c.first];
-    else if (c.kind == SWAP) {
-        y = next[next[p * k + c.second] * k + c.first];
-        x = next[x * k + c.second];
-        area[at++] = c.second;
-    }
+    int x, y;
+    at += strike(t, p, c.kind, c.first, c.second, &x, &y, area + at);
     for (int left = s[x][y]; left > 0;) {
         left--;
         for (a = 0; s[next[x * k + a]][next[y * k + a]] != left; a++)

@@ -27,22 +27,25 @@ module _ (g : Automaton) (d : List ℕ) (r p q : ℕ) where
   abbrev pub within : ℕ → Bool
   within a = leb (entry d (g .next p a) (g .next q a)) r
 
-  module _ (a : ℕ) {x y e : ℕ} (ex : x ≡ g .next p a) (ey : y ≡ g .next q a) (ee : e ≡ entry d x y) where
-    pub within-here : e ≤ r → a < g .symbols → true ≡ leadsWithin g d r p q
-    within-here h l = sym (any-at (g .symbols) within a l (rw (← ex, ← ey, ← ee) (le-leb e r h)))
+  module _ (a : ℕ) {x y : ℕ} (ex : x ≡ g .next p a) (ey : y ≡ g .next q a) where
+    pub within-here : entry d x y ≤ r → a < g .symbols → true ≡ leadsWithin g d r p q
+    within-here h l = sym (any-at (g .symbols) within a l (rw (← ex, ← ey) (le-leb (entry d x y) r h)))
 
-    pub within-turn : r < e → false ≡ any a within → false ≡ any (a + 1) within
-    within-turn h o = sym (any-more a within ∙ rw (← o, ← ex, ← ey, ← ee) (lt-leb e r h))
+    pub within-turn : r < entry d x y → false ≡ any a within → false ≡ any (a + 1) within
+    within-turn h o = sym (any-more a within ∙ rw (← o, ← ex, ← ey) (lt-leb (entry d x y) r h))
 
   pub within-end : {a : ℕ} → a ≤ g .symbols → g .symbols ≤ a → any a within ≡ leadsWithin g d r p q
   within-end l h = ap (λ (x : ℕ). any x within) (le-antisymm l h)
 
 -- ---- one pair
 
--- at most one pair is new
-pub one-at-most : (t : Bool) {b : ℕ} → b ≡ cond t 1 0 → b ≤ 1
-one-at-most true e = omega arith
-one-at-most false e = omega arith
+-- b is a with the pair counted where it is new
+module _ (a : ℕ) {b : ℕ} where
+  pub counted-new : {u : Bool} → u ≡ true → b ≡ a + 1 → b ≡ a + cond u 1 0
+  counted-new h e = rw h e
+
+  pub counted-old : {u : Bool} → u ≡ false → b ≡ a → b ≡ a + cond u 1 0
+  counted-old h e = rw h (omega arith)
 
 module _ (g : Automaton) (ends : ℕ → ℕ → Bool) (r p q : ℕ) where
   -- some symbol leads to a pair told apart within r
@@ -171,8 +174,8 @@ module _ {g : Automaton} (c : Closed g) (m : g .states ≤ stateLimit) {ends : �
           moved = some u refl;
         }
 
-    pub midway-turn : {b : ℕ} {e : List ℕ} → b ≡ cond (adds g d r p q) 1 0 → e ≡ new (adds g d r p q) → Midway g ends r (p * stateLimit + (q + 1)) (a + b) e
-    midway-turn h k = rw (h, k) turned
+    pub midway-turn : {u : Bool} {b : ℕ} {e : List ℕ} → u ≡ adds g d r p q → b ≡ a + cond u 1 0 → e ≡ new (adds g d r p q) → Midway g ends r (p * stateLimit + (q + 1)) b e
+    midway-turn h l k = rw (l, h, k) turned
 
   -- row p has had the round
   pub midway-row : (p q : ℕ) {a : ℕ} {d : List ℕ} → Midway g ends r (p * stateLimit + q) a d → q ≤ g .states → g .states ≤ q → Midway g ends r ((p + 1) * stateLimit) a d

@@ -86,7 +86,7 @@ fn leads_within(
     nexts: &[u8],
     n: usize,
     k: usize,
-    r: usize,
+    r: u16,
     p: usize,
     q: usize,
 ) -> bool
@@ -97,7 +97,7 @@ fn leads_within(
     while a < k {
         let x = monitor::successor(nexts, n, k, p, a);
         let y = monitor::successor(nexts, n, k, q, a);
-        if entry_at(square, x, y) <= r {
+        if square[x * STATE_LIMIT + y] <= r {
             return true;
         }
         a += 1;
@@ -105,28 +105,28 @@ fn leads_within(
     false
 }
 
-// The round after r at one pair. Returns 1 where the pair is new, else 0.
+// The round after r at one pair. Returns whether the pair is new.
 fn refine_pair(
     square: &mut [u16; SQUARE_SIZE],
     nexts: &[u8],
     n: usize,
     k: usize,
-    r: usize,
+    r: u16,
     p: usize,
     q: usize,
-) -> usize
+) -> bool
     requires { ⌜ Rows stateLimit n k (now nexts) × (r + 1 < never) × (p < n) × (q < n) ⌝ }
-    ensures added { λ b. ⌜ b ≡ cond (adds (automatonOf n k (now (nexts .entry))) (now (square .entry)) r p q) 1 0 ⌝ }
+    ensures added { λ b. ⌜ b ≡ adds (automatonOf n k (now (nexts .entry))) (now (square .entry)) r p q ⌝ }
     ensures square { λ _. ⌜ now (square .exit) ≡ cond (adds (automatonOf n k (now (nexts .entry))) (now (square .entry)) r p q) (set (now (square .entry)) (p * stateLimit + q) (r + 1)) (now (square .entry)) ⌝ }
 {
     if entry_at(square, p, q) != NEVER {
-        return 0;
+        return false;
     }
     if leads_within(square, nexts, n, k, r, p, q) {
-        square[p * STATE_LIMIT + q] = (r + 1) as u16;
-        return 1;
+        square[p * STATE_LIMIT + q] = r + 1;
+        return true;
     }
-    0
+    false
 }
 
 // The round after r in row p. Counts on from `added` the pairs that are new.
@@ -135,7 +135,7 @@ fn refine_row(
     nexts: &[u8],
     n: usize,
     k: usize,
-    r: usize,
+    r: u16,
     p: usize,
     added: usize,
 ) -> usize
@@ -146,14 +146,16 @@ fn refine_row(
     let mut count = added;
     let mut q = 0;
     while q < n {
-        count += refine_pair(square, nexts, n, k, r, p, q);
+        if refine_pair(square, nexts, n, k, r, p, q) {
+            count += 1;
+        }
         q += 1;
     }
     count
 }
 
 // The round after r: enters r + 1 for every pair that is told apart within r + 1 symbols and not within r. Returns how many, and 0 exactly if there is none.
-fn refine_all(square: &mut [u16; SQUARE_SIZE], nexts: &[u8], n: usize, k: usize, r: usize) -> usize
+fn refine_all(square: &mut [u16; SQUARE_SIZE], nexts: &[u8], n: usize, k: usize, r: u16) -> usize
     requires { ⌜ Rows stateLimit n k (now nexts) × (r + 1 < never) ⌝ }
     ensures { λ b. ⌜ ((ends : ℕ → ℕ → Bool) → Midway (automatonOf n k (now (nexts .entry))) ends r 0 0 (now (square .entry)) → Midway (automatonOf n k (now (nexts .entry))) ends r (n * stateLimit) b (now (square .exit))) ⌝ }
 {
@@ -173,11 +175,11 @@ fn refine(square: &mut [u16; SQUARE_SIZE], nexts: &[u8], n: usize, k: usize) -> 
     ensures square { λ _. ⌜ Squared (automatonOf n k (now (nexts .entry))) (begins (now (square .entry))) (now (square .exit)) ⌝ }
     ensures rounds { λ r. ⌜ Rounds (automatonOf n k (now (nexts .entry))) (begins (now (square .entry))) r ⌝ }
 {
-    let mut r = 0;
+    let mut r = 0u16;
     while refine_all(square, nexts, n, k, r) > 0 {
         r += 1;
     }
-    r
+    r as usize
 }
 
 // The distance of every two states: the fewest symbols after which their outputs differ.

@@ -2,7 +2,6 @@
 use mathlib.Core.Path.{_≡_, refl, _∙_}
 use mathlib.Core.Bool.{false}
 use Prim.Native.Nat.{_-_, _≤_}
-use native.Mathlib.Omega.{arith}
 use borrow.Author.Needs.{needs}
 use Rattle.theory.specs.Below.{any}
 use Rattle.monitor.specs.Format.{automatonOf}
@@ -26,16 +25,23 @@ successor-requires c κs = search needs
 successor-requires-2 : tie.Need-successor-requires-2 Inv-loop μ-loop
 successor-requires-2 c κs = search needs
 
-entry-at-requires : tie.Need-entry-at-requires Inv-loop μ-loop
-entry-at-requires c κs =
-    let most = c .before .before .before .before .before .pre .0 .states-most in
-    (omega (arith, c .before .successor .ensures .1, most), omega (arith, c .successor2 .ensures .1, most))
+mul-if1 : tie.Need-mul-if1 Inv-loop μ-loop
+mul-if1 c = search needs
+
+add-if1 : tie.Need-add-if1 Inv-loop μ-loop
+add-if1 c = search needs
+
+mul-if1-2 : tie.Need-mul-if1-2 Inv-loop μ-loop
+mul-if1-2 c = search needs
+
+element-copy-out-if1 : tie.Need-element-copy-out-if1 Inv-loop μ-loop
+element-copy-out-if1 c = search needs
 
 returns : tie.Need-returns Inv-loop μ-loop
 returns c =
     let a = c .before .before .before .before .before .before .before .args in
     within-here (automatonOf (a .n) (a .k) (a .nexts .now)) (a .square .now) (a .r) (a .p) (a .q) (c .before .before .before .before .before .loop .a)
-    (c .before .before .before .successor .ensures .0) (c .before .before .successor2 .ensures .0) (c .before .entry-at .ensures .0) (c .if1 .taken) (c .before .before .before .before .loop-test .taken)
+    (c .before .before .before .successor .ensures .0) (c .before .before .successor2 .ensures .0) (c .if1 .taken) (c .before .before .before .before .loop-test .taken)
 
 add-a : tie.Need-add-a Inv-loop μ-loop
 add-a c = search needs
@@ -49,7 +55,7 @@ loop-again c =
     let at = c .before .before .before .before .before .loop in (
       search needs,
       within-turn (automatonOf (a .n) (a .k) (a .nexts .now)) (a .square .now) (a .r) (a .p) (a .q) (at .a)
-          (c .before .before .before .successor .ensures .0) (c .before .before .successor2 .ensures .0) (c .before .entry-at .ensures .0) (c .if1 .left) (at .inv .1),
+          (c .before .before .before .successor .ensures .0) (c .before .before .successor2 .ensures .0) (c .if1 .left) (at .inv .1),
     )
 
 returns-2 : tie.Need-returns-2 Inv-loop μ-loop
@@ -61,4 +67,4 @@ returns-2 c =
 pub leads-within-spec : {M : Type 1} → statement M
 leads-within-spec =
     tie.close
-    (tie.spec Inv-loop μ-loop loop-holds successor-requires successor-requires-2 entry-at-requires returns add-a loop-less loop-again returns-2)
+    (tie.spec Inv-loop μ-loop loop-holds successor-requires successor-requires-2 mul-if1 add-if1 mul-if1-2 element-copy-out-if1 returns add-a loop-less loop-again returns-2)

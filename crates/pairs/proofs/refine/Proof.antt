@@ -45,6 +45,9 @@ loop-again c =
       rounds-more (next-of-rows rows) (rows .states-most) w (c .if1 .taken) (at .inv .2),
     )
 
+cast-result : tie.Need-cast-result Inv-loop μ-loop
+cast-result c = omega (arith, c .before .before .before .loop .inv .0, few-rounds (c .before .before .before .before .before .pre .0 .states-most))
+
 returns : tie.Need-returns Inv-loop μ-loop
 returns c =
     let rows = c .before .before .before .before .before .pre .0 in
@@ -57,4 +60,4 @@ returns c =
 pub refine-spec : {M : Type 1} → statement M
 refine-spec =
     tie.close
-    (tie.spec Inv-loop μ-loop loop-holds refine-all-requires add-r loop-less loop-again returns)
+    (tie.spec Inv-loop μ-loop loop-holds refine-all-requires add-r loop-less loop-again cast-result returns)

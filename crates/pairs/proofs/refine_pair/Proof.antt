@@ -19,9 +19,6 @@ leads-within-requires c κs = search needs
 add-square : tie.Need-add-square
 add-square c = search needs
 
-cast-square : tie.Need-cast-square
-cast-square c = search needs
-
 mul-square : tie.Need-mul-square
 mul-square c = search needs
 
@@ -51,4 +48,4 @@ returns-3 c =
 pub refine-pair-spec : {M : Type 1} → statement M
 refine-pair-spec =
     tie.close
-    (tie.spec entry-at-requires returns leads-within-requires add-square cast-square mul-square add-square-2 mul-square-2 element-write-square returns-2 returns-3)
+    (tie.spec entry-at-requires returns leads-within-requires add-square mul-square add-square-2 mul-square-2 element-write-square returns-2 returns-3)

@@ -1,5 +1,6 @@
 -- `refine_row` meets its contract: the pairs up to column q of row p have had the round, and at most each place counted one.
 use mathlib.Core.Bool.{Bool}
+use mathlib.Core.Logic.{⊎-elim}
 use Prim.Native.Nat.{ℕ, _+_, _*_, _-_, _≤_}
 use native.Mathlib.Nat.{add-zero}
 use native.Mathlib.Omega.{arith}
@@ -7,8 +8,8 @@ use borrow.Author.Needs.{needs}
 use Rattle.theory.specs.Monitor.{stateLimit}
 use Rattle.monitor.specs.Format.{automatonOf}
 use Rattle.monitor.proofs.Rows.{next-of-rows}
-use Rattle.pairs.specs.Square.{adds, Midway}
-use Rattle.pairs.proofs.Rounds.{one-at-most, midway-turn, midway-row}
+use Rattle.pairs.specs.Square.{Midway}
+use Rattle.pairs.proofs.Rounds.{counted-new, counted-old, midway-turn, midway-row}
 use Rattle.pairs.proofs.refine_row.Statement.{statement}
 use Rattle.pairs.proofs.refine_row.Tie as tie
 
@@ -28,9 +29,8 @@ refine-pair-requires c κs = search needs
 
 add-count : tie.Need-add-count Inv-loop μ-loop
 add-count c =
-    let s = c .before .before .before .before .before in
-    let at = c .before .before .before .loop in
-    omega (arith, at .inv .1, s .pre .0 .states-most, s .pre .2, one-at-most (adds (automatonOf (s .args .n) (s .args .k) (s .args .nexts .now)) (at .square) (s .args .r) (s .args .p) (at .q)) (c .refine-pair .ensures .0))
+    let pre = c .before .before .before .before .before .before .pre in
+    omega (arith, c .before .before .before .before .loop .inv .1, pre .0 .states-most, pre .2)
 
 add-q : tie.Need-add-q Inv-loop μ-loop
 add-q c = search needs
@@ -40,12 +40,13 @@ loop-less c = search needs
 
 loop-again : tie.Need-loop-again Inv-loop μ-loop
 loop-again c =
-    let s = c .before .before .before .before .before in
-    let at = c .before .before .before .loop in
-    let new = c .refine-pair .ensures in (
+    let s = c .before .before .before .before .before .before in
+    let at = c .before .before .before .before .loop in
+    let new = c .before .refine-pair .ensures in
+    let count = ⊎-elim (λ w. counted-new (at .count) (w .0 .taken) (w .1)) (λ w. counted-old (at .count) (w .0 .left) (w .1)) (c .if1 .came) in (
       search needs,
-      omega (arith, at .inv .1, one-at-most (adds (automatonOf (s .args .n) (s .args .k) (s .args .nexts .now)) (at .square) (s .args .r) (s .args .p) (at .q)) (new .0)),
-      λ ends w. midway-turn (next-of-rows (s .pre .0)) (s .pre .0 .states-most) (s .pre .1) (s .args .p) (at .q) (s .pre .2) (c .before .before .loop-test .taken) (at .inv .2 ends w) (new .0) (new .1),
+      ⊎-elim (λ w. omega (arith, at .inv .1, w .1)) (λ w. omega (arith, at .inv .1, w .1)) (c .if1 .came),
+      λ ends w. midway-turn (next-of-rows (s .pre .0)) (s .pre .0 .states-most) (s .pre .1) (s .args .p) (at .q) (s .pre .2) (c .before .before .before .loop-test .taken) (at .inv .2 ends w) (new .0) count (new .1),
     )
 
 returns : tie.Need-returns Inv-loop μ-loop
