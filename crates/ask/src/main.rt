@@ -7,9 +7,6 @@ ghost use mathlib.Core.Path.{_≡_};
 ghost use Prim.Native.Nat.{_≤_, min};
 ghost use lib.ListN.{length as List·length};
 
-// The greatest length of the input.
-const INPUT_LIMIT: usize = 65536;
-
 // The length of the program's own area, which every answer fits.
 const AREA_SIZE: usize = 65536;
 
@@ -201,16 +198,20 @@ fn answer(question: Question, input: &[u8], messages: &[u8]) {
 
 // The answer to a question about the input. Before all others the program asks whether the input is short enough.
 fn answer_line(question: Question, messages: &[u8]) {
-    let mut input = [0u8; 65537];
-    let length = io::read_full(0, &mut input);
-    if length <= INPUT_LIMIT {
-        answer(question, &input[..length], messages);
-    } else {
+    let mut space = [0u8; input::SIZE];
+    let length = io::read_full(libc::STDIN_FILENO, &mut space);
+    if length > input::LIMIT {
         printing::refusal(Refusal {
             number: 26,
             place: 0,
         });
+        printing::text(b"\n");
+        return;
     }
+    if input::fails(b"ask") {
+        return;
+    }
+    answer(question, &space[..length], messages);
     printing::text(b"\n");
 }
 

@@ -1,76 +1,88 @@
 // Which rules the arguments ask for: those that they name, or all if there is no argument.
 use arguments::Decimal;
 
-// Whether every argument is a number.
-pub fn all_numbers() -> bool {
+// The first number that is too great for a rule. It stands for all greater ones too.
+const BEYOND: usize = 65536;
+
+// How many numbers are told apart. In an array of as many bytes, that of a number is 1 while the number is wanted.
+pub const NUMBERS: usize = BEYOND + 1;
+
+// The byte of every number before the arguments are read: with no argument all are wanted.
+pub fn unread() -> u8 {
+    if os::arg_count() < 2 { 1 } else { 0 }
+}
+
+// Argument i as one of these numbers.
+fn number_at(i: usize) -> Decimal {
+    let Decimal::Number(number) = arguments::number_at(i) else {
+        return Decimal::NotANumber;
+    };
+    Decimal::Number(monitor::least_of(number, BEYOND))
+}
+
+fn mark(wanted: &mut [u8], number: usize) {
+    if number < wanted.len() {
+        wanted[number] = 1;
+    }
+}
+
+// Marks what the arguments ask for. Answers whether every argument is a number.
+pub fn read_arguments(wanted: &mut [u8]) -> bool {
     let count = os::arg_count();
     let mut i = 1;
     while i < count {
-        let Decimal::Number(_) = arguments::number_at(i) else {
+        let Decimal::Number(number) = number_at(i) else {
             return false;
         };
+        mark(wanted, number);
         i += 1;
     }
     true
 }
 
-// Whether argument i is this number.
-fn is_number(i: usize, number: usize) -> bool {
-    let Decimal::Number(argument) = arguments::number_at(i) else {
-        return false;
-    };
-    argument == number
-}
-
-// Whether the rule is asked for.
-pub fn is_chosen(rule: usize) -> bool {
-    let count = os::arg_count();
-    let mut i = 1;
-    while i < count {
-        if is_number(i, rule) {
-            return true;
-        }
-        i += 1;
-    }
-    count < 2
-}
-
-// Whether the rule is one of so many in a collection.
-fn is_there(file: &[u8], count: usize, rule: usize) -> bool {
-    let mut i = 0;
-    while i < count {
-        if collection::rule_number(file, i) == rule {
-            return true;
-        }
-        i += 1;
+// Whether the number is wanted. From then on it is not.
+pub fn take(wanted: &mut [u8], number: usize) -> bool {
+    if number < wanted.len() {
+        let is_wanted = wanted[number] == 1;
+        wanted[number] = 0;
+        return is_wanted;
     }
     false
 }
 
-// Prints a line for argument i if no rule has that number, after an empty line where gap says so. Answers whether the empty line is still to come.
-fn missing_line(file: &[u8], count: usize, i: usize, gap: bool) -> bool {
-    let Decimal::Number(rule) = arguments::number_at(i) else {
+// The line of a number that is wanted and has no card.
+fn missing(number: usize) {
+    if number == BEYOND {
+        printing::text(b"rule numbers go up to 65535\n");
+        return;
+    }
+    printing::text(b"rule ");
+    printing::number(number);
+    printing::text(b": not in the collection\n");
+}
+
+// Prints a line for argument i if it is still wanted, after an empty line where gap says so. Answers whether the empty line is still to come.
+fn missing_line(wanted: &mut [u8], i: usize, gap: bool) -> bool {
+    let Decimal::Number(number) = number_at(i) else {
         return gap;
     };
-    if is_there(file, count, rule) {
+    if !take(wanted, number) {
         return gap;
     }
     if gap {
         printing::text(b"\n");
     }
-    printing::text(b"rule ");
-    printing::number(rule);
-    printing::text(b": not in the collection\n");
+    missing(number);
     false
 }
 
-// A line for each argument that names no rule, with an empty line between the cards and the first of them.
-pub fn missing_lines(file: &[u8], count: usize, cards: bool) {
-    let arguments = os::arg_count();
+// These lines, once for each number, in the order of the arguments, with an empty line between the cards and the first of them.
+pub fn missing_lines(wanted: &mut [u8], cards: bool) {
+    let count = os::arg_count();
     let mut gap = cards;
     let mut i = 1;
-    while i < arguments {
-        gap = missing_line(file, count, i, gap);
+    while i < count {
+        gap = missing_line(wanted, i, gap);
         i += 1;
     }
 }

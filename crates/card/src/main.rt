@@ -25,10 +25,7 @@ fn fault(body: &[u8], set: FaultSet, domain: usize) {
         words::no_witness(finding);
         return;
     };
-    let distance = witness.distance;
-    if distance <= ROOM {
-        traces::draw(&area[0..distance], witness, domain);
-    }
+    traces::draw(monitor::part(&area, 0, witness.distance), witness, domain);
 }
 
 fn faults_by(body: &[u8], domain: usize) {
@@ -71,10 +68,7 @@ fn card(rule: usize, body: &[u8]) {
             words::monitorability(monitorability);
             printing::text(b"\n");
             sizes(body, reached);
-            let n = monitor::byte_at(body, 0);
-            if n <= STATE_LIMIT {
-                states::class_lines(&area[0..n]);
-            }
+            states::class_lines(monitor::part(&area, 0, monitor::byte_at(body, 0)));
             printing::text(b"by marks\n");
             faults_by(body, 3);
             printing::text(b"by classes\n");
@@ -84,12 +78,12 @@ fn card(rule: usize, body: &[u8]) {
 }
 
 // The cards of the rules that are asked for, with an empty line between two. Answers whether there were any.
-fn cards(file: &[u8], count: usize) -> bool {
+fn cards(file: &[u8], count: usize, wanted: &mut [u8]) -> bool {
     let mut shown = false;
     let mut i = 0;
     while i < count {
         let rule = collection::rule_number(file, i);
-        if chosen::is_chosen(rule) {
+        if chosen::take(wanted, rule) {
             if shown {
                 printing::text(b"\n");
             }
@@ -101,35 +95,39 @@ fn cards(file: &[u8], count: usize) -> bool {
     shown
 }
 
-fn report(file: &[u8]) {
+fn report(file: &[u8], wanted: &mut [u8]) {
     match collection::judge(file) {
         Collected::Refused(r) => words::collection_refusal(r),
         Collected::Accepted { count } => {
             if count == 0 {
                 printing::text(b"no rules in the collection\n");
             }
-            let shown = cards(file, count);
-            chosen::missing_lines(file, count, shown);
+            let shown = cards(file, count, wanted);
+            chosen::missing_lines(wanted, shown);
         }
     }
 }
 
 fn main() {
-    if !chosen::all_numbers() {
+    let mut wanted = [chosen::unread(); chosen::NUMBERS];
+    if !chosen::read_arguments(&mut wanted) {
         io::write_all(
-            2,
+            libc::STDERR_FILENO,
             b"usage: card [RULE..], with a collection on standard input\n",
         );
         return;
     }
-    let mut input = [0u8; 65537];
-    let length = io::read_full(0, &mut input);
-    if 65536 < length {
+    let mut space = [0u8; input::SIZE];
+    let length = io::read_full(libc::STDIN_FILENO, &mut space);
+    if length > input::LIMIT {
         words::collection_refusal(Refusal {
             number: 26,
             place: 0,
         });
         return;
     }
-    report(&input[..length]);
+    if input::fails(b"card") {
+        return;
+    }
+    report(&space[..length], &mut wanted);
 }

@@ -3,41 +3,38 @@ use crate::runs;
 ghost use Prim.Native.Nat.{_≤_, _<_};
 
 // The columns of a line that states take.
-const COLUMNS: usize = 77;
+const COLUMNS: usize = 76;
 
-fn class_label(class: u8) {
+// The name of a class, up to the column where its states begin.
+fn class_name(class: u8) {
     match class {
-        0 => printing::text(b"  good            state"),
-        1 => printing::text(b"  bad             state"),
-        2 => printing::text(b"  positive        state"),
-        3 => printing::text(b"  negative        state"),
-        4 => printing::text(b"  neutral         state"),
-        _ => printing::text(b"  ugly            state"),
+        0 => printing::text(b"  good            "),
+        1 => printing::text(b"  bad             "),
+        2 => printing::text(b"  positive        "),
+        3 => printing::text(b"  negative        "),
+        4 => printing::text(b"  neutral         "),
+        _ => printing::text(b"  ugly            "),
     }
 }
 
-// Makes room for so many columns behind those in use: the label comes first, and a full line is ended. Answers the columns then in use.
-fn make_room(class: u8, used: usize, columns: usize) -> usize
+// Makes room for so many columns behind those in use: a full line is ended. Answers the columns then in use.
+fn make_room(used: usize, columns: usize) -> usize
     requires { ⌜ (used < 100) × (columns < 100) ⌝ }
     ensures { λ r. ⌜ r < 100 ⌝ }
 {
-    if used == 0 {
-        class_label(class);
-        return columns;
-    }
     if used + columns > COLUMNS {
-        printing::text(b"\n                       ");
+        printing::text(b"\n                        ");
         return columns;
     }
     used + columns
 }
 
 // The states from the first to the last, which are different.
-fn several(class: u8, first: usize, last: usize, used: usize) -> usize
+fn several(first: usize, last: usize, used: usize) -> usize
     requires { ⌜ (first ≤ last) × (used < 100) ⌝ }
     ensures { λ r. ⌜ r < 100 ⌝ }
 {
-    let in_use = make_room(class, used, 7);
+    let in_use = make_room(used, 7);
     printing::text(b" ");
     printing::number(first);
     if last - first == 1 {
@@ -50,7 +47,7 @@ fn several(class: u8, first: usize, last: usize, used: usize) -> usize
 }
 
 // The states from the first to the last, if their class is asked for.
-fn states(asked: bool, class: u8, first: usize, last: usize, used: usize) -> usize
+fn states(asked: bool, first: usize, last: usize, used: usize) -> usize
     requires { ⌜ (first ≤ last) × (used < 100) ⌝ }
     ensures { λ r. ⌜ r < 100 ⌝ }
 {
@@ -58,25 +55,50 @@ fn states(asked: bool, class: u8, first: usize, last: usize, used: usize) -> usi
         return used;
     }
     if first < last {
-        return several(class, first, last, used);
+        return several(first, last, used);
     }
-    let in_use = make_room(class, used, 3);
+    let in_use = make_room(used, 3);
     printing::text(b" ");
     printing::number(first);
     in_use
 }
 
-fn class_line(classes: &[u8], class: u8) {
+// The first state of the class from a state on; the number of states where there is none.
+fn next_state(classes: &[u8], class: u8, from: usize) -> usize {
+    let mut q = from;
+    while q < classes.len() {
+        if classes[q] == class {
+            return q;
+        }
+        q += 1;
+    }
+    classes.len()
+}
+
+fn class_states(classes: &[u8], class: u8) {
     let mut used = 0;
     let mut q = 0;
     while q < classes.len() {
         let last = runs::last_alike(classes, q);
-        used = states(classes[q] == class, class, q, last, used);
+        used = states(classes[q] == class, q, last, used);
         q = last + 1;
     }
-    if used > 0 {
-        printing::text(b"\n");
+}
+
+// A line with the class and its states, if it has any.
+fn class_line(classes: &[u8], class: u8) {
+    let first = next_state(classes, class, 0);
+    if first >= classes.len() {
+        return;
     }
+    class_name(class);
+    if next_state(classes, class, first + 1) < classes.len() {
+        printing::text(b"states");
+    } else {
+        printing::text(b"state");
+    }
+    class_states(classes, class);
+    printing::text(b"\n");
 }
 
 pub fn class_lines(classes: &[u8]) {

@@ -153,15 +153,8 @@ fn sent_margin(from: usize) {
 // The left margin of a received trace: the distance in the first line.
 fn received_margin(w: Witness, from: usize) {
     if from == 0 {
-        let distance = w.distance;
         printing::text(b"    distance ");
-        printing::number(distance);
-        if distance < 100 {
-            printing::text(b" ");
-        }
-        if distance < 10 {
-            printing::text(b" ");
-        }
+        words::three_columns(w.distance);
         printing::text(b"  ");
     } else {
         printing::text(b"                  ");

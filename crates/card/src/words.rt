@@ -53,6 +53,7 @@ fn collection_question(number: usize) {
 fn at_entry(place: usize) {
     printing::text(b" at entry ");
     printing::number(place);
+    printing::text(b", counting from 0");
 }
 
 // The place, for the two questions that ask of each entry.
@@ -83,22 +84,39 @@ pub fn monitorability(m: usize) {
     }
 }
 
+// A number, and spaces up to three columns.
+pub fn three_columns(n: usize) {
+    printing::number(n);
+    if n < 100 {
+        printing::text(b" ");
+    }
+    if n < 10 {
+        printing::text(b" ");
+    }
+}
+
 // The name of a fault, up to the column where its finding begins.
 pub fn fault_name(bit: usize) {
     match bit {
         FaultSet::LOSS => printing::text(b"  loss            "),
         FaultSet::CORRUPTION => printing::text(b"  corruption      "),
         FaultSet::REPEAT => printing::text(b"  repeat          "),
-        _ => printing::text(b"  swap            "),
+        FaultSet::SWAP => printing::text(b"  swap            "),
+        _ => {
+            printing::text(b"  ");
+            three_columns(bit);
+            printing::text(b"             ");
+        }
     }
 }
 
 // A finding that has no witness.
 pub fn no_witness(finding: Finding) {
-    match finding {
-        Finding::Refused(r) => body_refusal(r),
-        _ => printing::text(b"immune\n"),
-    }
+    let Finding::Refused(r) = finding else {
+        printing::text(b"immune\n");
+        return;
+    };
+    body_refusal(r);
 }
 
 fn mark_word(mark: usize) {

@@ -2,24 +2,20 @@
 use collection::Collected;
 use lines::Line;
 
-// The first bytes of the area.
-fn print_front(area: &[u8], length: usize) {
-    if length <= area.len() {
-        io::write_all(1, &area[0..length]);
-    }
-}
-
 // The line of entry i; no line is longer than the area.
 fn print_line(file: &[u8], i: usize) {
     let mut area = [0u8; 256];
     let Line::Written { length } = lines::write_line(file, i, &mut area) else {
         return;
     };
-    print_front(&area, length);
+    io::write_all(libc::STDOUT_FILENO, monitor::part(&area, 0, length));
 }
 
 fn print_lines(file: &[u8], count: usize) {
-    io::write_all(1, b"rule states class loss corruption repeat swap\n");
+    io::write_all(
+        libc::STDOUT_FILENO,
+        b"rule states class loss corruption repeat swap\n",
+    );
     let mut i = 0;
     while i < count {
         print_line(file, i);
@@ -28,9 +24,9 @@ fn print_lines(file: &[u8], count: usize) {
 }
 
 fn print_refusal(number: usize) {
-    io::write_all(1, b"collection refused ");
-    io::print_decimal(1, number as u64);
-    io::write_all(1, b"\n");
+    io::write_all(libc::STDOUT_FILENO, b"collection refused ");
+    io::print_decimal(libc::STDOUT_FILENO, number as u64);
+    io::write_all(libc::STDOUT_FILENO, b"\n");
 }
 
 fn list(file: &[u8]) {
@@ -41,11 +37,14 @@ fn list(file: &[u8]) {
 }
 
 fn main() {
-    let mut input = [0u8; 65537];
-    let length = io::read_full(0, &mut input);
-    if 65536 < length {
+    let mut space = [0u8; input::SIZE];
+    let length = io::read_full(libc::STDIN_FILENO, &mut space);
+    if length > input::LIMIT {
         print_refusal(26);
         return;
     }
-    list(&input[..length]);
+    if input::fails(b"listing") {
+        return;
+    }
+    list(&space[..length]);
 }

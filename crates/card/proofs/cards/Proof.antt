@@ -1,14 +1,16 @@
 -- `cards` ends.
+use mathlib.Core.Path.{_≡_}
 use Prim.Native.Nat.{_-_}
+use lib.ListN.{length}
 use borrow.Author.Needs.{needs}
 use Rattle.card.proofs.cards.Statement.{statement}
 use Rattle.card.proofs.cards.Tie as tie
 
 abbrev Inv-loop : tie.InvT-loop
-Inv-loop file count shown₀ i₀ t6 shown i = Unit
+Inv-loop file count wanted₀ shown₀ i₀ t7 wanted shown i = length wanted ≡ length wanted₀
 
 abbrev μ-loop : tie.MeasureT-loop
-μ-loop file count shown₀ i₀ t6 shown i = count - i
+μ-loop file count wanted₀ shown₀ i₀ t7 wanted shown i = count - i
 
 loop-holds : tie.Need-loop-holds Inv-loop μ-loop
 loop-holds c = search needs
@@ -16,8 +18,8 @@ loop-holds c = search needs
 rule-number-requires : tie.Need-rule-number-requires Inv-loop μ-loop
 rule-number-requires c κs = search needs
 
-is-chosen-requires : tie.Need-is-chosen-requires Inv-loop μ-loop
-is-chosen-requires c κs = search needs
+take-requires : tie.Need-take-requires Inv-loop μ-loop
+take-requires c κs = search needs
 
 slice-aggregate-text : tie.Need-slice-aggregate-text Inv-loop μ-loop
 slice-aggregate-text c = search needs
@@ -40,6 +42,9 @@ loop-less c = search needs
 loop-again : tie.Need-loop-again Inv-loop μ-loop
 loop-again c = search needs
 
+same-length : tie.Need-same-length Inv-loop μ-loop
+same-length c = search needs
+
 returns : tie.Need-returns Inv-loop μ-loop
 returns c = search needs
 
@@ -51,7 +56,7 @@ cards-spec =
     μ-loop
     loop-holds
     rule-number-requires
-    is-chosen-requires
+    take-requires
     slice-aggregate-text
     text-requires
     body-requires
@@ -59,4 +64,5 @@ cards-spec =
     add-i
     loop-less
     loop-again
+    same-length
     returns)

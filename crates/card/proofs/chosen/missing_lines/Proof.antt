@@ -1,14 +1,16 @@
 -- `missing_lines` ends.
+use mathlib.Core.Path.{_≡_}
 use Prim.Native.Nat.{_-_}
+use lib.ListN.{length}
 use borrow.Author.Needs.{needs}
 use Rattle.card.proofs.chosen.missing_lines.Statement.{statement}
 use Rattle.card.proofs.chosen.missing_lines.Tie as tie
 
 abbrev Inv-loop : tie.InvT-loop
-Inv-loop file count cards arguments gap₀ i₀ gap i = Unit
+Inv-loop wanted₀ cards count gap₀ i₀ wanted gap i = length wanted ≡ length wanted₀
 
 abbrev μ-loop : tie.MeasureT-loop
-μ-loop file count cards arguments gap₀ i₀ gap i = arguments - i
+μ-loop wanted₀ cards count gap₀ i₀ wanted gap i = count - i
 
 arg-count-requires : tie.Need-arg-count-requires Inv-loop μ-loop
 arg-count-requires c κs = search needs
@@ -28,6 +30,9 @@ loop-less c = search needs
 loop-again : tie.Need-loop-again Inv-loop μ-loop
 loop-again c = search needs
 
+same-length : tie.Need-same-length Inv-loop μ-loop
+same-length c = search needs
+
 returns : tie.Need-returns Inv-loop μ-loop
 returns c = search needs
 
@@ -43,4 +48,5 @@ missing-lines-spec =
     add-i
     loop-less
     loop-again
+    same-length
     returns)

@@ -1,26 +1,27 @@
--- `is_there` ends.
+-- `next_state` stays within its slice and ends.
 use Prim.Native.Nat.{_-_}
+use lib.ListN.{length}
 use borrow.Author.Needs.{needs}
-use Rattle.card.proofs.chosen.is_there.Statement.{statement}
-use Rattle.card.proofs.chosen.is_there.Tie as tie
+use Rattle.card.proofs.states.next_state.Statement.{statement}
+use Rattle.card.proofs.states.next_state.Tie as tie
 
 abbrev Inv-loop : tie.InvT-loop
-Inv-loop file count rule i₀ i = Unit
+Inv-loop classes class from q₀ q = Unit
 
 abbrev μ-loop : tie.MeasureT-loop
-μ-loop file count rule i₀ i = count - i
+μ-loop classes class from q₀ q = length classes - q
 
 loop-holds : tie.Need-loop-holds Inv-loop μ-loop
 loop-holds c = search needs
 
-rule-number-requires : tie.Need-rule-number-requires Inv-loop μ-loop
-rule-number-requires c κs = search needs
+shared-slice-read-if1 : tie.Need-shared-slice-read-if1 Inv-loop μ-loop
+shared-slice-read-if1 c = search needs
 
 returns : tie.Need-returns Inv-loop μ-loop
 returns c = search needs
 
-add-i : tie.Need-add-i Inv-loop μ-loop
-add-i c = search needs
+add-q : tie.Need-add-q Inv-loop μ-loop
+add-q c = search needs
 
 loop-less : tie.Need-loop-less Inv-loop μ-loop
 loop-less c = search needs
@@ -31,16 +32,16 @@ loop-again c = search needs
 returns-2 : tie.Need-returns-2 Inv-loop μ-loop
 returns-2 c = search needs
 
-pub is-there-spec : {M : Type 1} → statement M
-is-there-spec =
+pub next-state-spec : {M : Type 1} → statement M
+next-state-spec =
     tie.close
     (tie.spec
     Inv-loop
     μ-loop
     loop-holds
-    rule-number-requires
+    shared-slice-read-if1
     returns
-    add-i
+    add-q
     loop-less
     loop-again
     returns-2)

@@ -1,15 +1,15 @@
--- `class_line` stays within its slice and ends.
+-- `class_states` stays within its slice and ends.
 use Prim.Native.Nat.{_<_, _-_}
 use lib.ListN.{length}
 use borrow.Author.Needs.{needs}
-use Rattle.card.proofs.states.class_line.Statement.{statement}
-use Rattle.card.proofs.states.class_line.Tie as tie
+use Rattle.card.proofs.states.class_states.Statement.{statement}
+use Rattle.card.proofs.states.class_states.Tie as tie
 
 abbrev Inv-loop : tie.InvT-loop
-Inv-loop classes class used₀ q₀ t6 used q = used < 100
+Inv-loop classes class used₀ q₀ used q = used < 100
 
 abbrev μ-loop : tie.MeasureT-loop
-μ-loop classes class used₀ q₀ t6 used q = length classes - q
+μ-loop classes class used₀ q₀ used q = length classes - q
 
 loop-holds : tie.Need-loop-holds Inv-loop μ-loop
 loop-holds c = search needs
@@ -32,20 +32,11 @@ loop-less c = search needs
 loop-again : tie.Need-loop-again Inv-loop μ-loop
 loop-again c = search needs
 
-slice-aggregate-text : tie.Need-slice-aggregate-text Inv-loop μ-loop
-slice-aggregate-text c = search needs
-
-text-requires : tie.Need-text-requires Inv-loop μ-loop
-text-requires c κs = search needs
-
 returns : tie.Need-returns Inv-loop μ-loop
 returns c = search needs
 
-returns-2 : tie.Need-returns-2 Inv-loop μ-loop
-returns-2 c = search needs
-
-pub class-line-spec : {M : Type 1} → statement M
-class-line-spec =
+pub class-states-spec : {M : Type 1} → statement M
+class-states-spec =
     tie.close
     (tie.spec
     Inv-loop
@@ -57,7 +48,4 @@ class-line-spec =
     add-q
     loop-less
     loop-again
-    slice-aggregate-text
-    text-requires
-    returns
-    returns-2)
+    returns)

@@ -1,14 +1,16 @@
--- `all_numbers` ends.
+-- `read_arguments` ends.
+use mathlib.Core.Path.{_≡_}
 use Prim.Native.Nat.{_-_}
+use lib.ListN.{length}
 use borrow.Author.Needs.{needs}
-use Rattle.card.proofs.chosen.all_numbers.Statement.{statement}
-use Rattle.card.proofs.chosen.all_numbers.Tie as tie
+use Rattle.card.proofs.chosen.read_arguments.Statement.{statement}
+use Rattle.card.proofs.chosen.read_arguments.Tie as tie
 
 abbrev Inv-loop : tie.InvT-loop
-Inv-loop count i₀ i = Unit
+Inv-loop wanted₀ count i₀ wanted i = length wanted ≡ length wanted₀
 
 abbrev μ-loop : tie.MeasureT-loop
-μ-loop count i₀ i = count - i
+μ-loop wanted₀ count i₀ wanted i = count - i
 
 arg-count-requires : tie.Need-arg-count-requires Inv-loop μ-loop
 arg-count-requires c κs = search needs
@@ -19,14 +21,20 @@ loop-holds c = search needs
 number-at-requires : tie.Need-number-at-requires Inv-loop μ-loop
 number-at-requires c κs = search needs
 
+enum-known-number : tie.Need-enum-known-number Inv-loop μ-loop
+enum-known-number c = search needs
+
 enum-told : tie.Need-enum-told Inv-loop μ-loop
 enum-told c = search needs
 
-enum-told-2 : tie.Need-enum-told-2 Inv-loop μ-loop
-enum-told-2 c = search needs
+same-length : tie.Need-same-length Inv-loop μ-loop
+same-length c = search needs
 
 returns : tie.Need-returns Inv-loop μ-loop
 returns c = search needs
+
+mark-requires : tie.Need-mark-requires Inv-loop μ-loop
+mark-requires c κs = search needs
 
 add-i : tie.Need-add-i Inv-loop μ-loop
 add-i c = search needs
@@ -37,11 +45,14 @@ loop-less c = search needs
 loop-again : tie.Need-loop-again Inv-loop μ-loop
 loop-again c = search needs
 
+same-length-2 : tie.Need-same-length-2 Inv-loop μ-loop
+same-length-2 c = search needs
+
 returns-2 : tie.Need-returns-2 Inv-loop μ-loop
 returns-2 c = search needs
 
-pub all-numbers-spec : {M : Type 1} → statement M
-all-numbers-spec =
+pub read-arguments-spec : {M : Type 1} → statement M
+read-arguments-spec =
     tie.close
     (tie.spec
     Inv-loop
@@ -49,10 +60,13 @@ all-numbers-spec =
     arg-count-requires
     loop-holds
     number-at-requires
+    enum-known-number
     enum-told
-    enum-told-2
+    same-length
     returns
+    mark-requires
     add-i
     loop-less
     loop-again
+    same-length-2
     returns-2)
