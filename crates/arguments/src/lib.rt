@@ -36,7 +36,7 @@ pub fn read_decimal(text: &[u8]) -> Decimal
             return Decimal::NotANumber;
         }
         let digit = (text[i] - b'0') as usize;
-        number = monitor::least_of(10 * number + digit, CAP);
+        number = basics::least_of(10 * number + digit, CAP);
         i += 1;
     }
     Decimal::Number(number)

@@ -1,8 +1,8 @@
 // Answers one question: the question as arguments, the body or the collection on standard input, the answer as one line on standard output.
 use arguments::Decimal;
+use basics::Refusal;
 use classes::Classification;
 use immunity::Finding;
-use monitor::Refusal;
 ghost use mathlib.Core.Path.{_≡_};
 ghost use Prim.Native.Nat.{_≤_, min};
 ghost use lib.ListN.{length as List·length};
@@ -153,7 +153,7 @@ fn read_arguments(count: usize, messages: &mut [u8]) -> Asked
 // The answer, and the class of each state.
 fn classify(body: &[u8], room: usize) {
     let mut area = [0u8; AREA_SIZE];
-    let end = monitor::least_of(room, AREA_SIZE);
+    let end = basics::least_of(room, AREA_SIZE);
     let lent = &mut area[0..end];
     let answer = classes::classify(body, lent);
     printing::classification(answer);
@@ -161,13 +161,13 @@ fn classify(body: &[u8], room: usize) {
         return;
     };
     printing::text(b" classes");
-    printing::bytes(monitor::part(lent, 0, monitor::byte_at(body, 0)));
+    printing::bytes(basics::part(lent, 0, basics::byte_at(body, 0)));
 }
 
 // The finding, and the sent trace of a witness.
 fn examine(body: &[u8], set: usize, domain: usize, room: usize) {
     let mut area = [0u8; AREA_SIZE];
-    let end = monitor::least_of(room, AREA_SIZE);
+    let end = basics::least_of(room, AREA_SIZE);
     let lent = &mut area[0..end];
     let answer = immunity::examine(body, set, domain, lent);
     printing::finding(answer);
@@ -175,7 +175,7 @@ fn examine(body: &[u8], set: usize, domain: usize, room: usize) {
         return;
     };
     printing::text(b" sent");
-    printing::bytes(monitor::part(lent, 0, witness.distance));
+    printing::bytes(basics::part(lent, 0, witness.distance));
 }
 
 fn answer(question: Question, input: &[u8], messages: &[u8]) {
@@ -188,7 +188,7 @@ fn answer(question: Question, input: &[u8], messages: &[u8]) {
             symbol,
         } => printing::stepped(readings::step(input, domain, state, symbol)),
         Question::Trace { domain, length } => {
-            let trace = monitor::part(messages, 0, length);
+            let trace = basics::part(messages, 0, length);
             printing::traced(readings::trace(input, domain, trace));
         }
         Question::Fault { set, domain, room } => examine(input, set, domain, room),

@@ -17,7 +17,7 @@ fn number_at(i: usize) -> Decimal {
     let Decimal::Number(number) = arguments::number_at(i) else {
         return Decimal::NotANumber;
     };
-    Decimal::Number(monitor::least_of(number, BEYOND))
+    Decimal::Number(basics::least_of(number, BEYOND))
 }
 
 fn mark(wanted: &mut [u8], number: usize) {

@@ -5,11 +5,11 @@ mod states;
 mod traces;
 mod words;
 
+use basics::Refusal;
 use classes::Classification;
 use collection::Collected;
 use faults::FaultSet;
 use immunity::Finding;
-use monitor::Refusal;
 use theory::SQUARE_SIZE;
 use theory::STATE_LIMIT;
 
@@ -25,7 +25,7 @@ fn fault(body: &[u8], set: FaultSet, domain: usize) {
         words::no_witness(finding);
         return;
     };
-    traces::draw(monitor::part(&area, 0, witness.distance), witness, domain);
+    traces::draw(basics::part(&area, 0, witness.distance), witness, domain);
 }
 
 fn faults_by(body: &[u8], domain: usize) {
@@ -38,7 +38,7 @@ fn faults_by(body: &[u8], domain: usize) {
 
 // The states, those reached, and the messages.
 fn sizes(body: &[u8], reached: usize) {
-    let n = monitor::byte_at(body, 0);
+    let n = basics::byte_at(body, 0);
     printing::text(b"  ");
     words::counted(n, b" state");
     printing::text(b", ");
@@ -48,9 +48,9 @@ fn sizes(body: &[u8], reached: usize) {
         printing::number(reached);
     }
     printing::text(b" reached from start ");
-    printing::number(monitor::byte_at(body, 2));
+    printing::number(basics::byte_at(body, 2));
     printing::text(b", ");
-    words::counted(monitor::byte_at(body, 1), b" message");
+    words::counted(basics::byte_at(body, 1), b" message");
     printing::text(b"\n");
 }
 
@@ -68,7 +68,7 @@ fn card(rule: usize, body: &[u8]) {
             words::monitorability(monitorability);
             printing::text(b"\n");
             sizes(body, reached);
-            states::class_lines(monitor::part(&area, 0, monitor::byte_at(body, 0)));
+            states::class_lines(basics::part(&area, 0, basics::byte_at(body, 0)));
             printing::text(b"by marks\n");
             faults_by(body, 3);
             printing::text(b"by classes\n");

@@ -87,9 +87,9 @@ fn item_size(head: &[u8], rest: &[u8], i: usize) -> usize
 fn message_at(head: &[u8], rest: &[u8], i: usize) -> usize {
     let fault = head.len();
     if i <= fault {
-        return monitor::byte_at(head, i);
+        return basics::byte_at(head, i);
     }
-    monitor::byte_at(rest, i - fault - 1)
+    basics::byte_at(rest, i - fault - 1)
 }
 
 // The columns that an item takes at most.
@@ -130,7 +130,7 @@ fn items(head: &[u8], rest: &[u8], here: Symbols, other: Symbols, from: usize, e
     let mut used = 0;
     let mut i = from;
     while i < end {
-        let size = monitor::least_of(item_size(head, rest, i), end - i);
+        let size = basics::least_of(item_size(head, rest, i), end - i);
         let width = item_width(head, rest, i, size);
         if used + width > COLUMNS {
             return i;
@@ -207,13 +207,13 @@ fn fault_of(sent: &[u8], w: Witness) -> Fault
     requires { ⌜ w .before < length (now sent) ⌝ }
 {
     let at = w.before;
-    let a = monitor::byte_at(sent, at);
+    let a = basics::byte_at(sent, at);
     let kind = w.kind;
     match kind {
         FaultSet::LOSS => faults::fault_of(0, a, 0),
         FaultSet::CORRUPTION => faults::fault_of(1, a, w.replacement),
         FaultSet::REPEAT => faults::fault_of(2, a, 0),
-        _ => faults::fault_of(3, a, monitor::byte_at(sent, at + 1)),
+        _ => faults::fault_of(3, a, basics::byte_at(sent, at + 1)),
     }
 }
 

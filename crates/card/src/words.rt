@@ -1,7 +1,7 @@
 // The words of a card: refusals, monitorability, faults and readings.
+use basics::Refusal;
 use faults::FaultSet;
 use immunity::Finding;
-use monitor::Refusal;
 
 // The no to a question of a body, in words: 1 to 8. The last line is never used, since the areas here are as long as any answer.
 fn body_question(number: usize) {

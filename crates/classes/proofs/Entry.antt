@@ -8,7 +8,7 @@ use Rattle.theory.specs.Answer.{Answer, refused, answered, asks, written}
 use Rattle.theory.specs.Monitor.{Monitor, class}
 use Rattle.theory.proofs.Answer.{untouched, written-over}
 use Rattle.theory.proofs.Values.{length-values}
-use Rattle.monitor.specs.declared.Refusal.{Refusal}
+use Rattle.basics.specs.declared.Refusal.{Refusal}
 use Rattle.monitor.specs.declared.Judgement.{Judgement}
 use Rattle.monitor.specs.declared.Judgement.the-variants.{Refused}
 use Rattle.monitor.specs.Format.{statesOf, monitorOf}

@@ -2,8 +2,9 @@
 use mathlib.Core.List.{List, [], _∷_, _++_}
 use Prim.Native.Nat.{ℕ}
 use Rattle.theory.specs.Below.{values}
-use Rattle.theory.specs.Answer.{Question, Answer, refused, answered, asks}
+use Rattle.theory.specs.Answer.{Question, Answer, answered, asks}
 use Rattle.theory.specs.Monitor.{Monitor, class, monitorability, statesReached}
+use Rattle.basics.specs.Refusals.{refusal}
 use Rattle.monitor.specs.Format.{statesOf, monitorOf}
 use Rattle.monitor.specs.Questions.{tableQuestions, question13}
 use Rattle.classes.specs.declared.Classification.{Classification}
@@ -28,4 +29,4 @@ classifyAnswer limit b room = asks (tableQuestions limit b ++ classifyQuestions 
 -- 01's numbers of a classification
 abbrev pub classification : Classification → Answer
 classification (Classified m r) = answered (m ∷ r ∷ [])
-classification (Refused r) = refused (r .number) (r .place)
+classification (Refused r) = refusal r

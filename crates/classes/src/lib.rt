@@ -1,6 +1,6 @@
 // The class of every state of a monitor, its monitorability, and the number of states reached.
+use basics::Refusal;
 use monitor::Judgement;
-use monitor::Refusal;
 use state_set::StateSet;
 ghost use mathlib.Core.Path.{_≡_};
 ghost use mathlib.Core.List.{_++_};
@@ -187,7 +187,7 @@ pub fn classify(body: &[u8], area: &mut [u8]) -> Classification
         }
         Judgement::Accepted => {}
     }
-    let n = monitor::byte_at(body, 0);
+    let n = basics::byte_at(body, 0);
     if area.len() < n {
         return Classification::Refused(Refusal {
             number: 13,
@@ -196,7 +196,7 @@ pub fn classify(body: &[u8], area: &mut [u8]) -> Classification
     }
     let marks = monitor::drawn_marks(body);
     let nexts = monitor::next_states(body);
-    let k = monitor::byte_at(body, 1);
-    let start = monitor::byte_at(body, 2);
+    let k = basics::byte_at(body, 1);
+    let start = basics::byte_at(body, 2);
     classify_table(marks, nexts, n, k, start, area)
 }

@@ -5,7 +5,8 @@ use Prim.Native.Nat.{ℕ, zero, suc, _+_, _*_, _-_}
 use lib.ListN.{length, getD, take, drop}
 use lib.Dec.{eqb, leb, ltb}
 use Rattle.theory.specs.Below.{first}
-use Rattle.theory.specs.Answer.{Question, Answer, refused, answered, asks}
+use Rattle.theory.specs.Answer.{Question, Answer, answered, asks}
+use Rattle.basics.specs.Refusals.{refusal}
 use Rattle.monitor.specs.Questions.{ofEach}
 use Rattle.collection.specs.declared.Collected.{Collected}
 use Rattle.collection.specs.declared.Collected.the-variants.{Accepted, Refused}
@@ -92,7 +93,7 @@ collectionAnswer file = asks (collectionQuestions file) (countOf file ∷ [])
 -- 01's number and place of a refusal, or the count
 abbrev pub collected : Collected → Answer
 collected (Accepted count) = answered (count ∷ [])
-collected (Refused r) = refused (r .number) (r .place)
+collected (Refused r) = refusal r
 
 -- ---- layers
 

@@ -1,5 +1,5 @@
 // A collection of bodies: judging its contents, and an entry's rule number and body.
-use monitor::Refusal;
+use basics::Refusal;
 ghost use mathlib.Core.Path.{_≡_};
 ghost use Prim.Native.Nat.{_≤_, _<_};
 ghost use Rattle.theory.specs.Answer.{Answer};
@@ -25,7 +25,7 @@ fn two_bytes_at(bytes: &[u8], at: usize) -> usize
     requires { ⌜ at < 8 ⌝ }
     ensures { λ r. ⌜ (r ≡ numberAt 2 (now (bytes .entry)) at) × (r < 65536) ⌝ }
 {
-    monitor::byte_at(bytes, at) + 256 * monitor::byte_at(bytes, at + 1)
+    basics::byte_at(bytes, at) + 256 * basics::byte_at(bytes, at + 1)
 }
 
 // The eight bytes of entry i, as far as the file has them; none if there is no entry i.
@@ -33,7 +33,7 @@ fn entry(file: &[u8], i: usize) -> &[u8]
     ensures { λ r. ⌜ now r ≡ entryOf (now (file .entry)) i ⌝ }
 {
     if i < two_bytes_at(file, 0) {
-        return monitor::part(file, 2 + 8 * i, 8);
+        return basics::part(file, 2 + 8 * i, 8);
     }
     &file[0..0]
 }
@@ -66,7 +66,7 @@ pub fn body(file: &[u8], i: usize) -> &[u8]
 {
     let from = body_offset(file, i);
     let size = body_length(file, i);
-    monitor::part(file, from, size)
+    basics::part(file, from, size)
 }
 
 // Where body i has to start; with i = c, where the file has to end.

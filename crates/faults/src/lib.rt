@@ -178,7 +178,7 @@ fn cost_of(
 {
     let x = after(nexts, n, k, p, fault.sent);
     let y = after(nexts, n, k, p, fault.received);
-    monitor::least_of(fault.sent.count + pairs::entry_at(square, x, y), NEVER)
+    basics::least_of(fault.sent.count + pairs::entry_at(square, x, y), NEVER)
 }
 
 // What the cheapest fault of a kind at p with the given first symbol costs.
@@ -199,7 +199,7 @@ fn cost_from(
     let mut second = 0;
     while second < count {
         let fault = fault_of(rank, first, second);
-        least = monitor::least_of(cost_of(square, nexts, n, k, p, fault), least);
+        least = basics::least_of(cost_of(square, nexts, n, k, p, fault), least);
         second += 1;
     }
     least
@@ -220,7 +220,7 @@ fn cost_of_kind(
     let mut least = NEVER;
     let mut first = 0;
     while first < k {
-        least = monitor::least_of(cost_from(square, nexts, n, k, p, rank, first), least);
+        least = basics::least_of(cost_from(square, nexts, n, k, p, rank, first), least);
         first += 1;
     }
     least
@@ -260,7 +260,7 @@ fn cost_at(
     let mut least = NEVER;
     let mut rank = 0;
     while rank < KINDS {
-        least = monitor::least_of(cost_if_held(square, nexts, n, k, set, p, rank), least);
+        least = basics::least_of(cost_if_held(square, nexts, n, k, set, p, rank), least);
         rank += 1;
     }
     least

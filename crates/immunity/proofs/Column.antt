@@ -12,7 +12,7 @@ use Rattle.theory.specs.Computed.{extentOf, firstWitness, distance}
 use Rattle.theory.proofs.Answer.{asks-values}
 use Rattle.monitor.specs.Format.{monitorOf}
 use Rattle.monitor.specs.Questions.{tableQuestions, judgeAnswer}
-use Rattle.monitor.specs.declared.Refusal.{Refusal}
+use Rattle.basics.specs.declared.Refusal.{Refusal}
 use Rattle.immunity.specs.declared.Finding.{Finding}
 use Rattle.immunity.specs.declared.Finding.the-variants.{Refused}
 use Rattle.immunity.specs.declared.LinkCard.{LinkCard}

@@ -11,7 +11,7 @@ use Rattle.theory.specs.Faults.{allFaults}
 use Rattle.theory.specs.Monitor.{Monitor}
 use Rattle.theory.specs.Computed.{firstWitness}
 use Rattle.theory.proofs.Answer.{untouched}
-use Rattle.monitor.specs.declared.Refusal.{Refusal}
+use Rattle.basics.specs.declared.Refusal.{Refusal}
 use Rattle.monitor.specs.declared.Judgement.{Judgement}
 use Rattle.monitor.specs.declared.Judgement.the-variants.{Refused}
 use Rattle.monitor.specs.Format.{monitorOf}

@@ -9,6 +9,7 @@ use Rattle.theory.specs.Monitor.{Monitor, reading, monitorability}
 use Rattle.theory.specs.Faults.{steps}
 use Rattle.theory.specs.Series.{Series, sentTrace, receivedTrace}
 use Rattle.theory.specs.Computed.{firstHarmful, firstWitness}
+use Rattle.basics.specs.Refusals.{refusal}
 use Rattle.monitor.specs.Format.{automatonOf, monitorOf}
 use Rattle.monitor.specs.Questions.{tableQuestions, judgeAnswer, question9, question10, question13}
 use Rattle.pairs.specs.Square.{differing}
@@ -58,7 +59,7 @@ witnessValues w = w .distance ∷ w .before ∷ w .kind ∷ w .replacement ∷ w
 
 -- 01's number and place of a refusal, or the values of a finding
 abbrev pub finding : Finding → Answer
-finding (Refused r) = refused (r .number) (r .place)
+finding (Refused r) = refusal r
 finding Immune = answered []
 finding (Vulnerable w) = answered (witnessValues w)
 

@@ -1,7 +1,7 @@
 // The fault question: immune, or vulnerable with the first witness; and the card of a table.
+use basics::Refusal;
 use faults::FaultSet;
 use monitor::Judgement;
-use monitor::Refusal;
 use pairs::NEVER;
 use theory::SQUARE_SIZE;
 use theory::STATE_LIMIT;
@@ -180,9 +180,9 @@ pub fn examine(body: &[u8], set: usize, domain: usize, area: &mut [u8]) -> Findi
     }
     let marks = monitor::drawn_marks(body);
     let nexts = monitor::next_states(body);
-    let n = monitor::byte_at(body, 0);
-    let k = monitor::byte_at(body, 1);
-    let start = monitor::byte_at(body, 2);
+    let n = basics::byte_at(body, 0);
+    let k = basics::byte_at(body, 1);
+    let start = basics::byte_at(body, 2);
     examine_table(marks, nexts, n, k, start, set, domain, area)
 }
 
@@ -251,8 +251,8 @@ pub fn card(body: &[u8]) -> Carded
     }
     let marks = monitor::drawn_marks(body);
     let nexts = monitor::next_states(body);
-    let n = monitor::byte_at(body, 0);
-    let k = monitor::byte_at(body, 1);
-    let start = monitor::byte_at(body, 2);
+    let n = basics::byte_at(body, 0);
+    let k = basics::byte_at(body, 1);
+    let start = basics::byte_at(body, 2);
     Carded::Card(card_of(marks, nexts, n, k, start))
 }

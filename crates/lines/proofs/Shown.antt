@@ -13,7 +13,7 @@ use Rattle.theory.specs.Extent.{number}
 use Rattle.theory.specs.Computed.{distance}
 use Rattle.theory.proofs.Answer.{written-over}
 use Rattle.monitor.specs.Format.{monitorOf}
-use Rattle.monitor.specs.declared.Refusal.{Refusal}
+use Rattle.basics.specs.declared.Refusal.{Refusal}
 use Rattle.immunity.specs.declared.Finding.{Finding}
 use Rattle.immunity.specs.declared.LinkCard.{LinkCard}
 use Rattle.immunity.specs.declared.Carded.{Carded}

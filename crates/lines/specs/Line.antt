@@ -9,6 +9,7 @@ use Rattle.theory.specs.Answer.{Answer, refused, answered, asks}
 use Rattle.theory.specs.Monitor.{Monitor, monitorability}
 use Rattle.theory.specs.Extent.{Extent, number, missing}
 use Rattle.theory.specs.Computed.{distance}
+use Rattle.basics.specs.Refusals.{refusal}
 use Rattle.monitor.specs.Format.{monitorOf}
 use Rattle.monitor.specs.Questions.{judgeAnswer, question13}
 use Rattle.immunity.specs.declared.LinkCard.{LinkCard}
@@ -63,7 +64,7 @@ lineAnswer limit file i room = asks (question13 (length (entryLine limit file i)
 -- 13 and its place, or the length of the line
 abbrev pub lined : Line → Answer
 lined (Line.Written l) = answered (l ∷ [])
-lined (Line.Refused r) = refused (r .number) (r .place)
+lined (Line.Refused r) = refusal r
 
 -- ---- layers
 

@@ -1,8 +1,8 @@
 // One line of the listing: from a collection and an entry to the bytes of a line in the area lent.
+use basics::Refusal;
 use immunity::Carded;
 use immunity::Finding;
 use immunity::LinkCard;
-use monitor::Refusal;
 ghost use mathlib.Core.Path.{_≡_};
 ghost use mathlib.Core.List.{_++_};
 ghost use Prim.Native.Nat.{_+_, _≤_};

@@ -8,7 +8,7 @@ fn print_line(file: &[u8], i: usize) {
     let Line::Written { length } = lines::write_line(file, i, &mut area) else {
         return;
     };
-    io::write_all(libc::STDOUT_FILENO, monitor::part(&area, 0, length));
+    io::write_all(libc::STDOUT_FILENO, basics::part(&area, 0, length));
 }
 
 fn print_lines(file: &[u8], count: usize) {

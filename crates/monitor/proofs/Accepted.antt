@@ -13,7 +13,7 @@ use Rattle.theory.proofs.Below.{first-none}
 use Rattle.theory.proofs.Answer.{asks-yes, asks-both, asks-refused, asks-passed}
 use Rattle.monitor.specs.Format.{statesOf, symbolsOf, startOf, drawnMarks, marks, nexts, tableOf, monitorOf, Table}
 use Rattle.monitor.specs.Questions.{firstNotBelow, revokes, firstRevoking, question6, question7, question8, headQuestions, rowQuestions, tableQuestions, judgeAnswer, judgement}
-use Rattle.monitor.specs.declared.Refusal.{Refusal}
+use Rattle.basics.specs.declared.Refusal.{Refusal}
 use Rattle.monitor.specs.declared.Judgement.{Judgement}
 use Rattle.monitor.specs.declared.Judgement.the-variants.{Accepted, Refused}
 use Rattle.monitor.proofs.Revoking.{verdict-stays}

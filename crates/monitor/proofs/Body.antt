@@ -1,41 +1,22 @@
 -- Marks and next states as parts of a body, and questions 6 to 8: what each no answers.
 use mathlib.Core.Path.{_≡_, ap, _∙_}
 use mathlib.Core.List.{List, [], _∷_}
-use Prim.Native.Nat.{ℕ, zero, suc, _+_, _*_, _-_, _≤_, _<_, min}
+use Prim.Native.Nat.{ℕ, _+_, _*_, _-_, _≤_, _<_, min}
 use native.Mathlib.Nat.{le-refl}
 use native.Mathlib.Omega.{arith}
 use lib.ListN.{length, getD, take, drop, length-take, length-drop}
-use lib.Seq.{take-all, take-nil, drop-nil}
+use lib.Seq.{take-all}
 use borrow.Author.Tests.{eq-eqb, ne-eqb, leb-false}
 use Rattle.theory.specs.Answer.{refused, answered, asks}
 use Rattle.theory.proofs.Below.{first-whole, first-none}
+use Rattle.basics.proofs.Parts.{drop-least}
 use Rattle.monitor.specs.Format.{statesOf, symbolsOf, drawnMarks, nexts, Rows}
 use Rattle.monitor.specs.Questions.{notBelow, firstNotBelow, revokes, firstRevoking, question8, rowQuestions}
 use Rattle.monitor.proofs.Head.{Head}
 
 -- ---- parts
 
--- a place past the end is the end
-take-least : (i : ℕ) (l : List ℕ) → take (min i (length l)) l ≡ take i l
-take-least zero l = (let e : min 0 (length l) ≡ 0 = omega arith in ap (λ (n : ℕ). take n l) e)
-take-least (suc i) [] = take-nil (min (suc i) 0)
-take-least (suc i) (x ∷ l) = (let e : min (suc i) (suc (length l)) ≡ suc (min i (length l)) = omega arith in ap (λ (n : ℕ). take n (x ∷ l)) e ∙ ap (λ (r : List ℕ). x ∷ r) (take-least i l))
-
-drop-least : (i : ℕ) (l : List ℕ) → drop (min i (length l)) l ≡ drop i l
-drop-least zero l = (let e : min 0 (length l) ≡ 0 = omega arith in ap (λ (n : ℕ). drop n l) e)
-drop-least (suc i) [] = drop-nil (min (suc i) 0)
-drop-least (suc i) (x ∷ l) = (let e : min (suc i) (suc (length l)) ≡ suc (min i (length l)) = omega arith in ap (λ (n : ℕ). drop n (x ∷ l)) e ∙ drop-least i l)
-
--- the part that `part` lends
-pub part-lent : (l : List ℕ) (from count : ℕ) {start size : ℕ} → start ≡ min from (length l) → size ≡ min count (length l - start) → take (start + size - start) (drop start l) ≡ take count (drop from l)
-part-lent l from count {start} {size} e f =
-    let long : start + size - start ≡ min count (length (drop from l)) = omega (arith, e, f, length-drop from l) in
-    ap (λ (i : ℕ). take (start + size - start) (drop i l)) e
-    ∙ ap (take (start + size - start)) (drop-least from l)
-    ∙ ap (λ (i : ℕ). take i (drop from l)) long
-    ∙ take-least count (drop from l)
-
--- the part from there on
+-- the next states that `next_states` lends
 pub nexts-lent : (b : List ℕ) {n from : ℕ} → n ≡ statesOf b → from ≡ min (3 + n) (length b) → take (length b - from) (drop from b) ≡ nexts b
 nexts-lent b {n} {from} e f =
     take-all (length b - from) (drop from b) (simp length-drop (le-refl (length b - from)))

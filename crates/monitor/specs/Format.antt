@@ -3,6 +3,7 @@ use mathlib.Core.Path.{_≡_}
 use mathlib.Core.List.{List}
 use Prim.Native.Nat.{ℕ, _+_, _*_, _≤_, _<_}
 use lib.ListN.{length, getD, take, drop}
+use denote.Ref.{RefT, now}
 use Rattle.theory.specs.Automaton.{Automaton}
 use Rattle.theory.specs.Monitor.{Monitor, WellFormed, symbolLimit}
 
@@ -33,6 +34,10 @@ nexts b = drop (3 + statesOf b) b
 -- the automaton of n states and k symbols whose next states stand row by row in ts
 abbrev pub automatonOf : ℕ → ℕ → List ℕ → Automaton
 automatonOf n k ts = record { states = n; symbols = k; next = λ q a. getD ts (q * k + a) 0 }
+
+-- the same of the next states behind a reference, for contracts
+abbrev pub graph : ℕ → ℕ → RefT (List ℕ) → Automaton
+graph n k nexts = automatonOf n k (now nexts)
 
 -- with the start s and the marks vs
 abbrev pub tableOf : ℕ → ℕ → ℕ → List ℕ → List ℕ → Monitor

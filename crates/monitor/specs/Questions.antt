@@ -5,9 +5,10 @@ use Prim.Native.Nat.{ℕ, _+_, _*_, _/_}
 use lib.ListN.{length, getD}
 use lib.Dec.{eqb, leb, ltb}
 use Rattle.theory.specs.Below.{first}
-use Rattle.theory.specs.Answer.{Question, Answer, refused, answered, asks}
+use Rattle.theory.specs.Answer.{Question, Answer, answered, asks}
 use Rattle.theory.specs.Faults.{allFaults}
 use Rattle.theory.specs.Monitor.{symbolLimit}
+use Rattle.basics.specs.Refusals.{refusal}
 use Rattle.monitor.specs.Format.{statesOf, symbolsOf, startOf, drawnMarks, nexts}
 use Rattle.monitor.specs.declared.Judgement.{Judgement}
 use Rattle.monitor.specs.declared.Judgement.the-variants.{Accepted, Refused}
@@ -102,4 +103,4 @@ judgeAnswer limit b = asks (tableQuestions limit b) []
 -- 01's number and place of a judgement
 abbrev pub judgement : Judgement → Answer
 judgement Accepted = answered []
-judgement (Refused r) = refused (r .number) (r .place)
+judgement (Refused r) = refusal r

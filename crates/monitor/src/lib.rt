@@ -1,4 +1,5 @@
 // The byte format of monitors: judging a body, and reading a successor.
+use basics::Refusal;
 use theory::STATE_LIMIT;
 use theory::SYMBOL_LIMIT;
 ghost use mathlib.Core.Path.{_≡_};
@@ -10,12 +11,6 @@ ghost use Rattle.theory.specs.Monitor.{stateLimit};
 ghost use Rattle.theory.specs.Answer.{Answer, asks};
 ghost use Rattle.monitor.specs.Format.{drawnMarks, nexts, Rows, automatonOf};
 ghost use Rattle.monitor.specs.Questions.{firstNotBelow, revokes, firstRevoking, headQuestions, rowQuestions, judgement, judgeAnswer};
-
-// The number of the question that was answered no, and its place.
-pub struct Refusal {
-    pub number: usize,
-    pub place: usize,
-}
 
 pub enum Judgement {
     Accepted,
@@ -79,44 +74,18 @@ fn first_revoking(marks: &[u8], nexts: &[u8], k: usize) -> usize
     nexts.len()
 }
 
-// The byte at i, or 0 past the end.
-pub fn byte_at(body: &[u8], i: usize) -> usize
-    ensures { λ r. ⌜ (r ≡ getD (now (body .entry)) i 0) × (r < 256) ⌝ }
-{
-    if i < body.len() {
-        return body[i] as usize;
-    }
-    0
-}
-
-// The smaller of two numbers.
-pub fn least_of(a: usize, b: usize) -> usize
-    ensures { λ r. ⌜ r ≡ min a b ⌝ }
-{
-    if a < b { a } else { b }
-}
-
-// The `count` bytes from a place on, as far as they are there.
-pub fn part(bytes: &[u8], from: usize, count: usize) -> &[u8]
-    ensures { λ r. ⌜ now r ≡ take count (drop from (now (bytes .entry))) ⌝ }
-{
-    let start = least_of(from, bytes.len());
-    let size = least_of(count, bytes.len() - start);
-    &bytes[start..start + size]
-}
-
 // The marks of a body as drawn, as far as it has them.
 pub fn drawn_marks(body: &[u8]) -> &[u8]
     ensures { λ r. ⌜ now r ≡ drawnMarks (now (body .entry)) ⌝ }
 {
-    part(body, 3, byte_at(body, 0))
+    basics::part(body, 3, basics::byte_at(body, 0))
 }
 
 // The next states of a body: all that stands behind the marks.
 pub fn next_states(body: &[u8]) -> &[u8]
     ensures { λ r. ⌜ now r ≡ nexts (now (body .entry)) ⌝ }
 {
-    let from = least_of(3 + byte_at(body, 0), body.len());
+    let from = basics::least_of(3 + basics::byte_at(body, 0), body.len());
     &body[from..]
 }
 

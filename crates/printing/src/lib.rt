@@ -1,4 +1,5 @@
 // The words and lines that programs print. No contract can say what is written; the output of programs is compared with a stored one.
+use basics::Refusal;
 use classes::Classification;
 use collection::Collected;
 use immunity::Carded;
@@ -6,7 +7,6 @@ use immunity::Finding;
 use immunity::LinkCard;
 use immunity::Witness;
 use monitor::Judgement;
-use monitor::Refusal;
 use readings::Stepped;
 use readings::Traced;
 

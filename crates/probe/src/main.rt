@@ -35,9 +35,9 @@ fn answer(frame: &[u8]) {
         return;
     }
     let call = frame[0];
-    let a = monitor::byte_at(frame, 1);
-    let b = monitor::byte_at(frame, 2);
-    let c = monitor::byte_at(frame, 3);
+    let a = basics::byte_at(frame, 1);
+    let b = basics::byte_at(frame, 2);
+    let c = basics::byte_at(frame, 3);
     let bytes = &frame[4..];
     match call {
         0 => printing::judgement(monitor::judge(bytes)),

@@ -12,7 +12,7 @@ use Rattle.theory.specs.Below.{first}
 use Rattle.theory.specs.Answer.{Answer, refused, answered, asks}
 use Rattle.theory.specs.Monitor.{Monitor}
 use Rattle.theory.proofs.Below.{first-whole}
-use Rattle.monitor.specs.declared.Refusal.{Refusal}
+use Rattle.basics.specs.declared.Refusal.{Refusal}
 use Rattle.monitor.specs.declared.Judgement.{Judgement}
 use Rattle.monitor.specs.declared.Judgement.the-variants.{Refused}
 use Rattle.monitor.specs.Format.{statesOf, symbolsOf, monitorOf}

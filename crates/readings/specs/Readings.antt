@@ -2,8 +2,9 @@
 use mathlib.Core.List.{List, [], _∷_, _++_}
 use Prim.Native.Nat.{ℕ}
 use Rattle.theory.specs.Automaton.{run}
-use Rattle.theory.specs.Answer.{Question, Answer, refused, answered, asks}
+use Rattle.theory.specs.Answer.{Question, Answer, answered, asks}
 use Rattle.theory.specs.Monitor.{Monitor, reading}
+use Rattle.basics.specs.Refusals.{refusal}
 use Rattle.monitor.specs.Format.{statesOf, symbolsOf, monitorOf}
 use Rattle.monitor.specs.Questions.{tableQuestions, question10, question11, question12}
 use Rattle.readings.specs.declared.Stepped.{Stepped}
@@ -36,8 +37,8 @@ traceAnswer limit b d w = asks (tableQuestions limit b ++ traceQuestions b d w) 
 -- 01's numbers of the two answers
 abbrev pub stepped : Stepped → Answer
 stepped (Stepped.To q r) = answered (q ∷ r ∷ [])
-stepped (Stepped.Refused r) = refused (r .number) (r .place)
+stepped (Stepped.Refused r) = refusal r
 
 abbrev pub traced : Traced → Answer
 traced (Traced.Reads r) = answered (r ∷ [])
-traced (Traced.Refused r) = refused (r .number) (r .place)
+traced (Traced.Refused r) = refusal r

@@ -1,6 +1,6 @@
 // What a monitor reads: after one step from a state, and after a trace from its start.
+use basics::Refusal;
 use monitor::Judgement;
-use monitor::Refusal;
 ghost use mathlib.Core.Path.{_≡_};
 ghost use mathlib.Core.Bool.{_||_};
 ghost use mathlib.Core.List.{_++_};
@@ -129,8 +129,8 @@ pub fn step(body: &[u8], domain: usize, state: usize, symbol: usize) -> Stepped
             place: 0,
         });
     }
-    let n = monitor::byte_at(body, 0);
-    let k = monitor::byte_at(body, 1);
+    let n = basics::byte_at(body, 0);
+    let k = basics::byte_at(body, 1);
     if state >= n {
         return Stepped::Refused(Refusal {
             number: 11,
@@ -192,8 +192,8 @@ pub fn trace(body: &[u8], domain: usize, symbols: &[u8]) -> Traced
     }
     let marks = monitor::drawn_marks(body);
     let nexts = monitor::next_states(body);
-    let n = monitor::byte_at(body, 0);
-    let k = monitor::byte_at(body, 1);
-    let start = monitor::byte_at(body, 2);
+    let n = basics::byte_at(body, 0);
+    let k = basics::byte_at(body, 1);
+    let start = basics::byte_at(body, 2);
     trace_table(marks, nexts, n, k, start, domain, symbols)
 }

@@ -27,7 +27,7 @@ fn least_after(totals: &[usize; STATE_LIMIT], nexts: &[u8], n: usize, k: usize, 
     let mut a = 0;
     while a < k {
         let x = monitor::successor(nexts, n, k, p, a);
-        least = monitor::least_of(totals[x], least);
+        least = basics::least_of(totals[x], least);
         a += 1;
     }
     least

@@ -1,8 +1,8 @@
 -- `part` meets its contract.
 use borrow.Author.Needs.{needs}
-use Rattle.monitor.proofs.Body.{part-lent}
-use Rattle.monitor.proofs.part.Statement.{statement}
-use Rattle.monitor.proofs.part.Tie as tie
+use Rattle.basics.proofs.Parts.{part-lent}
+use Rattle.basics.proofs.part.Statement.{statement}
+use Rattle.basics.proofs.part.Tie as tie
 
 least-of-requires : tie.Need-least-of-requires
 least-of-requires c κs = search needs

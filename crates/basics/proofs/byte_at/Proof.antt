@@ -3,8 +3,8 @@ use mathlib.Core.Path.{refl, sym}
 use native.Mathlib.Omega.{arith}
 use lib.ListN.{List·getD-eq-default}
 use borrow.Author.Needs.{needs}
-use Rattle.monitor.proofs.byte_at.Statement.{statement}
-use Rattle.monitor.proofs.byte_at.Tie as tie
+use Rattle.basics.proofs.byte_at.Statement.{statement}
+use Rattle.basics.proofs.byte_at.Tie as tie
 
 shared-slice-read-result : tie.Need-shared-slice-read-result
 shared-slice-read-result c = search needs
@@ -16,7 +16,7 @@ returns : tie.Need-returns
 returns c = (refl, omega (arith, c .shared-slice-known .given (c .before .before .args .i)))
 
 returns-2 : tie.Need-returns-2
-returns-2 c = (sym (List·getD-eq-default (c .before .args .body .now) 0 (c .if1 .left)), search needs)
+returns-2 c = (sym (List·getD-eq-default (c .before .args .bytes .now) 0 (c .if1 .left)), search needs)
 
 pub byte-at-spec : {M : Type 1} → statement M
 byte-at-spec = tie.close (tie.spec shared-slice-read-result cast-result returns returns-2)
