@@ -1,7 +1,9 @@
 // The class of every state of a monitor, its monitorability, and the number of states reached.
 use basics::Refusal;
-use monitor::Judgement;
+use monitor::Opened;
+use monitor::Shape;
 use state_set::StateSet;
+use theory::STATE_LIMIT;
 ghost use mathlib.Core.Path.{_≡_};
 ghost use mathlib.Core.List.{_++_};
 ghost use Prim.Native.Nat.{ℕ, _≤_, _<_};
@@ -9,11 +11,12 @@ ghost use lib.ListN.{length, drop};
 ghost use Rattle.theory.specs.Below.{values};
 ghost use Rattle.theory.specs.Automaton.{leads};
 ghost use Rattle.theory.specs.Monitor.{classFrom, class, weak, monitorability, stateLimit};
-ghost use Rattle.theory.specs.Answer.{Answer, written};
+ghost use Rattle.theory.specs.Answer.{asks, written};
 ghost use Rattle.state_set.specs.Member.{Exactly};
-ghost use Rattle.monitor.specs.Format.{Rows, Table, automatonOf, tableOf, monitorOf};
+ghost use Rattle.monitor.specs.Format.{Rows, graph, monitorOf};
+ghost use Rattle.monitor.specs.Opening.{monitorIn, TableIn};
 ghost use Rattle.classes.specs.Sets.{hasMark, classBy, monitorabilityBy};
-ghost use Rattle.classes.specs.Classify.{classList, classifyFigures, classifyAnswer, classification};
+ghost use Rattle.classes.specs.Classify.{classList, classifyQuestions, classifyFigures, classifyAnswer, classification};
 
 pub enum Classification {
     Classified {
@@ -47,9 +50,11 @@ fn states_marked(marks: &[u8], v: u8) -> StateSet
 
 // Which verdicts can still be found from each state.
 fn outlook_of(marks: &[u8], nexts: &[u8], n: usize, k: usize) -> Outlook
-    requires { ⌜ Rows stateLimit n k (now nexts) × (length (now marks) ≡ n) ⌝ }
-    ensures truth { λ r. ⌜ Exactly n (leads (automatonOf n k (now (nexts .entry))) (hasMark (now (marks .entry)) 1)) (r .truth) ⌝ }
-    ensures falsity { λ r. ⌜ Exactly n (leads (automatonOf n k (now (nexts .entry))) (hasMark (now (marks .entry)) 2)) (r .falsity) ⌝ }
+    requires { ⌜ Rows stateLimit n k (now nexts)
+        × (length (now marks) ≡ n) ⌝ }
+    ensures truth { λ r. ⌜ Exactly n (leads (graph n k (nexts .entry)) (hasMark (now (marks .entry)) 1)) (r .truth) ⌝ }
+    ensures falsity { λ r. ⌜ Exactly n (leads (graph n k (nexts .entry)) (hasMark (now (marks .entry)) 2))
+        (r .falsity) ⌝ }
 {
     let truth = reach::reaching(nexts, n, k, states_marked(marks, 1));
     let falsity = reach::reaching(nexts, n, k, states_marked(marks, 2));
@@ -89,11 +94,12 @@ fn class_by(marks: &[u8], outlook: Outlook, q: usize) -> u8
 }
 
 // The class of state q of a table, for callers that want one class only.
-pub fn class_of(marks: &[u8], nexts: &[u8], n: usize, k: usize, q: usize) -> u8
-    requires { ⌜ Rows stateLimit n k (now nexts) × (length (now marks) ≡ n) × (q < n) ⌝ }
-    ensures { λ r. ⌜ ((s : ℕ) → r ≡ class (tableOf n k s (now (marks .entry)) (now (nexts .entry))) q) ⌝ }
+pub fn class_of(marks: &[u8], nexts: &[u8], t: Shape, q: usize) -> u8
+    requires { ⌜ TableIn t marks nexts
+        × (q < t .states) ⌝ }
+    ensures { λ r. ⌜ r ≡ class (monitorIn t (marks .entry) (nexts .entry)) q ⌝ }
 {
-    class_by(marks, outlook_of(marks, nexts, n, k), q)
+    class_by(marks, outlook_of(marks, nexts, t.states, t.symbols), q)
 }
 
 // The weak monitorability of a class: 0 pos, 1 neg, 2 both, 3 none.
@@ -113,7 +119,9 @@ fn weak_of(class: u8) -> usize
 // The classes of all states, into the first places of the area.
 fn write_classes(marks: &[u8], outlook: Outlook, area: &mut [u8])
     requires { ⌜ length (now marks) ≤ length (now area) ⌝ }
-    ensures { λ _. ⌜ now (area .exit) ≡ values (length (now (marks .entry))) (classBy (now (marks .entry)) (outlook .truth) (outlook .falsity)) ++ drop (length (now (marks .entry))) (now (area .entry)) ⌝ }
+    ensures { λ _. ⌜ now (area .exit)
+        ≡ values (length (now (marks .entry))) (classBy (now (marks .entry)) (outlook .truth) (outlook .falsity))
+            ++ drop (length (now (marks .entry))) (now (area .entry)) ⌝ }
 {
     let mut i = 0;
     while i < marks.len() {
@@ -125,7 +133,8 @@ fn write_classes(marks: &[u8], outlook: Outlook, area: &mut [u8])
 // The monitorability by the states reached and the class of the start. A state that can reach neither true nor false is ugly.
 fn monitorability_by(marks: &[u8], outlook: Outlook, reached: StateSet, start: usize) -> usize
     requires { ⌜ start < length (now marks) ⌝ }
-    ensures { λ r. ⌜ r ≡ monitorabilityBy (now (marks .entry)) (outlook .truth) (outlook .falsity) reached start ⌝ }
+    ensures { λ r. ⌜ r
+        ≡ monitorabilityBy (now (marks .entry)) (outlook .truth) (outlook .falsity) reached start ⌝ }
 {
     let truth = outlook.truth;
     let falsity = outlook.falsity;
@@ -137,66 +146,64 @@ fn monitorability_by(marks: &[u8], outlook: Outlook, reached: StateSet, start: u
 }
 
 // The classes of all states of a table, for callers that want nothing else.
-pub fn write_all_classes(marks: &[u8], nexts: &[u8], n: usize, k: usize, area: &mut [u8])
-    requires { ⌜ Rows stateLimit n k (now nexts) × (length (now marks) ≡ n) × (n ≤ length (now area)) ⌝ }
-    ensures { λ _. ⌜ ((s : ℕ) → now (area .exit) ≡ classList (tableOf n k s (now (marks .entry)) (now (nexts .entry))) ++ drop n (now (area .entry))) ⌝ }
+pub fn write_all_classes(marks: &[u8], nexts: &[u8], t: Shape, area: &mut [u8])
+    requires { ⌜ TableIn t marks nexts
+        × (t .states ≤ length (now area)) ⌝ }
+    ensures { λ _. ⌜ now (area .exit)
+        ≡ classList (monitorIn t (marks .entry) (nexts .entry)) ++ drop (t .states) (now (area .entry)) ⌝ }
 {
-    write_classes(marks, outlook_of(marks, nexts, n, k), area);
+    write_classes(marks, outlook_of(marks, nexts, t.states, t.symbols), area);
 }
 
 // The monitorability of a table, for callers that want nothing else.
-pub fn monitorability_of(marks: &[u8], nexts: &[u8], n: usize, k: usize, start: usize) -> usize
-    requires { ⌜ Table stateLimit n k start (now marks) (now nexts) ⌝ }
-    ensures { λ r. ⌜ r ≡ monitorability (tableOf n k start (now (marks .entry)) (now (nexts .entry))) ⌝ }
+pub fn monitorability_of(marks: &[u8], nexts: &[u8], t: Shape) -> usize
+    requires { ⌜ TableIn t marks nexts ⌝ }
+    ensures { λ r. ⌜ r ≡ monitorability (monitorIn t (marks .entry) (nexts .entry)) ⌝ }
 {
-    let outlook = outlook_of(marks, nexts, n, k);
-    let reached = reach::reachable(nexts, n, k, start);
-    monitorability_by(marks, outlook, reached, start)
+    let outlook = outlook_of(marks, nexts, t.states, t.symbols);
+    let reached = reach::reachable(nexts, t.states, t.symbols, t.start);
+    monitorability_by(marks, outlook, reached, t.start)
 }
 
-// The classes of an accepted table.
-fn classify_table(
-    marks: &[u8],
-    nexts: &[u8],
-    n: usize,
-    k: usize,
-    start: usize,
-    area: &mut [u8],
-) -> Classification
-    requires { ⌜ Table stateLimit n k start (now marks) (now nexts) × (n ≤ length (now area)) ⌝ }
-    ensures figures { λ r. ⌜ classification r ≡ Answer.answered (classifyFigures (tableOf n k start (now (marks .entry)) (now (nexts .entry)))) ⌝ }
-    ensures area { λ _. ⌜ now (area .exit) ≡ classList (tableOf n k start (now (marks .entry)) (now (nexts .entry))) ++ drop n (now (area .entry)) ⌝ }
+// The classes of an opened table.
+fn classify_table(marks: &[u8], nexts: &[u8], t: Shape, area: &mut [u8]) -> Classification
+    requires { ⌜ TableIn t marks nexts ⌝ }
+    ensures figures { λ r. ⌜ classification r
+        ≡ asks (classifyQuestions (length (now (area .entry))) (monitorIn t (marks .entry) (nexts .entry)))
+            (classifyFigures (monitorIn t (marks .entry) (nexts .entry))) ⌝ }
+    ensures area { λ r. ⌜ now (area .exit)
+        ≡ written (classification r) (classList (monitorIn t (marks .entry) (nexts .entry))) (now (area .entry)) ⌝ }
 {
-    let outlook = outlook_of(marks, nexts, n, k);
-    let reached = reach::reachable(nexts, n, k, start);
-    write_classes(marks, outlook, area);
-    Classification::Classified {
-        monitorability: monitorability_by(marks, outlook, reached, start),
-        reached: reached.count(),
-    }
-}
-
-// Classifies the states of a table: their classes go into the area, which a refusal leaves as it was.
-pub fn classify(body: &[u8], area: &mut [u8]) -> Classification
-    ensures figures { λ r. ⌜ classification r ≡ classifyAnswer stateLimit (now (body .entry)) (length (now (area .entry))) ⌝ }
-    ensures area { λ _. ⌜ now (area .exit) ≡ written (classifyAnswer stateLimit (now (body .entry)) (length (now (area .entry)))) (classList (monitorOf (now (body .entry)))) (now (area .entry)) ⌝ }
-{
-    match monitor::judge(body) {
-        Judgement::Refused(r) => {
-            return Classification::Refused(r);
-        }
-        Judgement::Accepted => {}
-    }
-    let n = basics::byte_at(body, 0);
+    let n = t.states;
     if area.len() < n {
         return Classification::Refused(Refusal {
             number: 13,
             place: 0,
         });
     }
-    let marks = monitor::drawn_marks(body);
-    let nexts = monitor::next_states(body);
-    let k = basics::byte_at(body, 1);
-    let start = basics::byte_at(body, 2);
-    classify_table(marks, nexts, n, k, start, area)
+    let outlook = outlook_of(marks, nexts, n, t.symbols);
+    let reached = reach::reachable(nexts, n, t.symbols, t.start);
+    write_classes(marks, outlook, area);
+    Classification::Classified {
+        monitorability: monitorability_by(marks, outlook, reached, t.start),
+        reached: reached.count(),
+    }
+}
+
+// Classifies the states of a table: their classes go into the area, which a refusal leaves as it was.
+pub fn classify(body: &[u8], area: &mut [u8]) -> Classification
+    ensures figures { λ r. ⌜ classification r
+        ≡ classifyAnswer stateLimit (now (body .entry)) (length (now (area .entry))) ⌝ }
+    ensures area { λ _. ⌜ now (area .exit)
+        ≡ written (classifyAnswer stateLimit (now (body .entry)) (length (now (area .entry))))
+            (classList (monitorOf (now (body .entry)))) (now (area .entry)) ⌝ }
+{
+    let mut marks = [0u8; STATE_LIMIT];
+    match monitor::open(body, &mut marks) {
+        Opened::Refused(r) => Classification::Refused(r),
+        Opened::Table(t) => {
+            let n = t.states;
+            classify_table(&marks[..n], monitor::next_states(body), t, area)
+        }
+    }
 }

@@ -1,27 +1,37 @@
 -- The fault question and the card.
 use mathlib.Core.List.{List, [], _∷_, _++_}
 use mathlib.Core.Option.{Option, none, some}
-use Prim.Native.Nat.{ℕ}
-use lib.ListN.{length, getD}
-use Rattle.theory.specs.Answer.{Question, Answer, refused, answered, asks}
+use Prim.Native.Nat.{ℕ, _^_}
+use lib.ListN.{length}
+use Rattle.theory.specs.Answer.{Question, Answer, answered, asks}
 use Rattle.theory.specs.Automaton.{Automaton, run}
 use Rattle.theory.specs.Monitor.{Monitor, reading, monitorability}
-use Rattle.theory.specs.Faults.{steps}
+use Rattle.theory.specs.Faults.{kinds}
+use Rattle.theory.specs.Lists.{each}
 use Rattle.theory.specs.Series.{Series, sentTrace, receivedTrace}
-use Rattle.theory.specs.Computed.{firstHarmful, firstWitness}
+use Rattle.theory.specs.Computed.{firstWitness}
 use Rattle.basics.specs.Refusals.{refusal}
-use Rattle.monitor.specs.Format.{automatonOf, monitorOf}
-use Rattle.monitor.specs.Questions.{tableQuestions, judgeAnswer, question9, question10, question13}
-use Rattle.pairs.specs.Square.{differing}
+use Rattle.monitor.specs.Format.{monitorOf}
+use Rattle.monitor.specs.Questions.{tableQuestions, question9, question10, question13}
+use Rattle.faults.specs.Kinds.{bitOf}
 use Rattle.immunity.specs.declared.Witness.{Witness}
 use Rattle.immunity.specs.declared.Finding.{Finding}
 use Rattle.immunity.specs.declared.Finding.the-variants.{Refused, Immune, Vulnerable}
+use Rattle.immunity.specs.declared.Column.{Column}
+use Rattle.immunity.specs.declared.Summary.{Summary}
 use Rattle.immunity.specs.declared.LinkCard.{LinkCard}
-use Rattle.immunity.specs.declared.Carded.{Carded}
 
--- "The answer has the distance (sent length), the number of messages before the fault, its kind (the fixed bit), the replacement (0 except for corruption) and both readings."
+-- "The answer has the distance (sent length), the number of messages before the fault, its kind (the fixed bit),
+-- the replacement (0 except for corruption) and both readings."
 abbrev pub seriesFigures : (ℕ → ℕ) → Automaton → ℕ → Series → List ℕ
-seriesFigures read g q s = length (sentTrace s) ∷ length (s .before) ∷ s .fault .kind ∷ s .fault .replacement ∷ read (run g q (sentTrace s)) ∷ read (run g q (receivedTrace s)) ∷ []
+seriesFigures read g q s =
+    length (sentTrace s)
+    ∷ length (s .before)
+    ∷ s .fault .kind
+    ∷ s .fault .replacement
+    ∷ read (run g q (sentTrace s))
+    ∷ read (run g q (receivedTrace s))
+    ∷ []
 
 -- immune answers no values
 abbrev pub witnessFigures : (ℕ → ℕ) → Automaton → ℕ → Option Series → List ℕ
@@ -47,7 +57,9 @@ faultQuestions set d w room = question9 set ∷ question10 d ∷ roomQuestions w
 
 -- the answer of the fault question
 unfoldable pub faultAnswer : ℕ → List ℕ → ℕ → ℕ → ℕ → Answer
-faultAnswer limit b set d room = asks (tableQuestions limit b ++ faultQuestions set d (firstWitness (monitorOf b) d set) room) (tableFigures (monitorOf b) d set)
+faultAnswer limit b set d room =
+    asks (tableQuestions limit b ++ faultQuestions set d (firstWitness (monitorOf b) d set) room)
+    (tableFigures (monitorOf b) d set)
 
 -- what an answer writes at the front of the area
 abbrev pub faultTrace : List ℕ → ℕ → ℕ → List ℕ
@@ -55,7 +67,7 @@ faultTrace b set d = witnessTrace (firstWitness (monitorOf b) d set)
 
 -- the six values of a witness, in 01's order
 abbrev pub witnessValues : Witness → List ℕ
-witnessValues w = w .distance ∷ w .before ∷ w .kind ∷ w .replacement ∷ w .sent ∷ w .received ∷ []
+witnessValues w = w .distance ∷ w .before ∷ bitOf (w .kind) ∷ w .replacement ∷ w .sent ∷ w .received ∷ []
 
 -- 01's number and place of a refusal, or the values of a finding
 abbrev pub finding : Finding → Answer
@@ -65,39 +77,36 @@ finding (Vulnerable w) = answered (witnessValues w)
 
 -- ---- the card
 
--- the answer of a card: the number and place of a refusal; or n, the monitorability, and an answer for each of loss, corruption, repeat and swap
-pub data CardAnswer : Type 0 where
-  cardRefused : ℕ → ℕ → CardAnswer
-  shown : ℕ → ℕ → Answer → Answer → Answer → Answer → CardAnswer
+-- n and monitorability
+abbrev pub summaryFigures : Monitor → List ℕ
+summaryFigures m = m .automaton .states ∷ monitorability m ∷ []
 
--- the card of a table: n, monitorability, and what the fault question of each fault alone answers under reading 3
-abbrev pub cardFigures : Monitor → CardAnswer
-cardFigures m = shown (m .automaton .states) (monitorability m) (answered (tableFigures m 3 1)) (answered (tableFigures m 3 2)) (answered (tableFigures m 3 4)) (answered (tableFigures m 3 8))
+-- the column of rank c: what the fault question of that fault alone answers under reading 3
+abbrev pub columnFigures : ℕ → Monitor → List ℕ
+columnFigures c m = tableFigures m 3 (2 ^ c)
 
--- a table that is refused has no card
-abbrev pub cardAfter : Answer → Monitor → CardAnswer
-cardAfter (refused number place) m = cardRefused number place
-cardAfter (answered values) m = cardFigures m
+-- the answer of a card: its summary, and its columns in the written order of the faults
+pub record CardAnswer : Type 0 where
+  pub summary : Answer
+  pub columns : List Answer
 
--- a card asks 1 to 8
+-- a card asks 1 to 8, for its summary and for each of its columns
 unfoldable pub cardAnswer : ℕ → List ℕ → CardAnswer
-cardAnswer limit b = cardAfter (judgeAnswer limit b) (monitorOf b)
+cardAnswer limit b = record {
+  summary = asks (tableQuestions limit b) (summaryFigures (monitorOf b));
+  columns = each kinds (λ c. asks (tableQuestions limit b) (columnFigures c (monitorOf b)) ∷ []);
+}
+
+-- 01's number and place of a refusal, or the values of a summary
+abbrev pub summarised : Summary → Answer
+summarised (Summary.Table states monitorability) = answered (states ∷ monitorability ∷ [])
+summarised (Summary.Refused r) = refusal r
+
+-- the findings of the columns, one after the other
+abbrev pub found : List Column → List Answer
+found [] = []
+found (column ∷ columns) = finding (column .finding) ∷ found columns
 
 -- the values of a card
-abbrev pub cardValues : LinkCard → CardAnswer
-cardValues c = shown (c .states) (c .monitorability) (finding (c .loss)) (finding (c .corruption)) (finding (c .repeat)) (finding (c .swap))
-
--- 01's number and place of a refusal, or the values of a card
-abbrev pub carded : Carded → CardAnswer
-carded (Carded.Card c) = cardValues c
-carded (Carded.Refused r) = cardRefused (r .number) (r .place)
-
--- ---- layers
-
--- the first harmful series of n states and k symbols that read `outs` and have the next states `ts`
-abbrev pub firstOf : ℕ → ℕ → List ℕ → List ℕ → ℕ → ℕ → Option Series
-firstOf n k outs ts set start = firstHarmful (automatonOf n k ts) (differing outs) (steps set k) start
-
--- what they answer for an area of `room` bytes
-abbrev pub answerOf : ℕ → ℕ → List ℕ → List ℕ → ℕ → ℕ → ℕ → Answer
-answerOf n k outs ts set start room = asks (roomQuestions (firstOf n k outs ts set start) room) (witnessFigures (λ q. getD outs q 0) (automatonOf n k ts) start (firstOf n k outs ts set start))
+abbrev pub carded : LinkCard → CardAnswer
+carded c = record { summary = summarised (c .summary); columns = found (c .columns) }

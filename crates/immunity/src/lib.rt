@@ -1,31 +1,33 @@
 // The fault question: immune, or vulnerable with the first witness; and the card of a table.
 use basics::Refusal;
 use faults::FaultSet;
-use monitor::Judgement;
+use faults::KINDS;
+use faults::Kind;
+use monitor::Opened;
+use monitor::Shape;
 use pairs::NEVER;
 use theory::SQUARE_SIZE;
 use theory::STATE_LIMIT;
 ghost use mathlib.Core.Path.{_≡_};
 ghost use mathlib.Core.Option.{some};
-ghost use Prim.Native.Nat.{_≤_, _<_};
 ghost use lib.ListN.{length, getD};
 ghost use lib.Seq.{sets};
 ghost use Rattle.theory.specs.Answer.{answered, asks, written};
 ghost use Rattle.theory.specs.Monitor.{stateLimit};
-ghost use Rattle.theory.specs.Faults.{steps};
 ghost use Rattle.theory.specs.Series.{Series, sentTrace};
 ghost use Rattle.theory.specs.Computed.{horizon, firstWitness};
-ghost use Rattle.monitor.specs.Format.{Rows, Table, automatonOf, tableOf};
-ghost use Rattle.pairs.specs.Square.{never, Squared, differing};
-ghost use Rattle.faults.specs.Steps.{Costs};
-ghost use Rattle.totals.specs.Totals.{Relaxed};
-ghost use Rattle.immunity.specs.Findings.{seriesFigures, witnessTrace, roomQuestions, firstOf, answerOf, tableFigures, faultAnswer, faultTrace, witnessValues, finding, cardFigures, cardAnswer, cardValues, carded};
+ghost use Rattle.monitor.specs.Opening.{monitorIn, TableIn};
+ghost use Rattle.pairs.specs.Square.{Squared, differing};
+ghost use Rattle.immunity.specs.Findings.{seriesFigures, witnessTrace, roomQuestions, faultQuestions, tableFigures};
+ghost use Rattle.immunity.specs.Findings.{faultAnswer, faultTrace, witnessValues, finding, cardAnswer, cardOf, carded};
+ghost use Rattle.immunity.specs.Search.{firstOf, answerOf, Posed, Ready, automatonIn};
 
-// A witness whose sent trace stands in the area: its length, the symbols before the fault, the fault's bit, the replacement, and what the sent and the received trace read.
+// A witness whose sent trace stands in the area: its length, the symbols before the fault, the fault's kind, the
+// replacement, and what the sent and the received trace read.
 pub struct Witness {
     pub distance: usize,
     pub before: usize,
-    pub kind: usize,
+    pub kind: Kind,
     pub replacement: usize,
     pub sent: usize,
     pub received: usize,
@@ -37,19 +39,24 @@ pub enum Finding {
     Vulnerable(Witness),
 }
 
-// What the listing shows of a table: its states, its monitorability, and the finding for each fault alone, by marks.
-pub struct LinkCard {
-    pub states: usize,
-    pub monitorability: usize,
-    pub loss: Finding,
-    pub corruption: Finding,
-    pub repeat: Finding,
-    pub swap: Finding,
+// What a card says of a table before its columns.
+pub enum Summary {
+    Table {
+        states: usize,
+        monitorability: usize,
+    },
+    Refused(Refusal),
 }
 
-pub enum Carded {
-    Card(LinkCard),
-    Refused(Refusal),
+// A column of a card: the finding for one fault alone, by marks.
+pub struct Column {
+    pub finding: Finding,
+}
+
+// What the listing shows of a table. Its columns go by the ranks of the faults; each is a refusal where the table is refused.
+pub struct LinkCard {
+    pub summary: Summary,
+    pub columns: [Column; KINDS],
 }
 
 // The first witness from the start on. Its sent trace goes into the area.
@@ -59,16 +66,21 @@ fn witness_of(
     costs: &[usize; STATE_LIMIT],
     totals: &[usize; STATE_LIMIT],
     nexts: &[u8],
-    n: usize,
-    k: usize,
-    start: usize,
-    set: usize,
+    t: Shape,
+    set: FaultSet,
     area: &mut [u8],
 ) -> Witness
-    requires { ⌜ Rows stateLimit n k (now nexts) × (length (now outputs) ≡ n) × (start < n) × Squared (automatonOf n k (now nexts)) (differing (now outputs)) (now square) × Costs (automatonOf n k (now nexts)) (now square) (steps set k) n (now costs) × Relaxed (automatonOf n k (now nexts)) (now costs) (now totals) × (getD (now totals) start 0 < never) × (getD (now totals) start 0 ≤ length (now area)) ⌝ }
-    ensures figures { λ r. ⌜ ((s : Series) → firstOf n k (now (outputs .entry)) (now (nexts .entry)) set start ≡ some s → witnessValues r ≡ seriesFigures (λ q. getD (now (outputs .entry)) q 0) (automatonOf n k (now (nexts .entry))) start s) ⌝ }
-    ensures area { λ _. ⌜ ((s : Series) → firstOf n k (now (outputs .entry)) (now (nexts .entry)) set start ≡ some s → now (area .exit) ≡ sets (now (area .entry)) 0 (sentTrace s)) ⌝ }
+    requires { ⌜ Ready t (set .bits) (now outputs) (now square) (now costs) (now totals) (now nexts)
+        (length (now area)) ⌝ }
+    ensures figures { λ r. ⌜ ((s : Series) → firstOf t (now (outputs .entry)) (now (nexts .entry)) (set .bits) ≡ some s
+        → witnessValues r
+        ≡ seriesFigures (λ q. getD (now (outputs .entry)) q 0) (automatonIn t (now (nexts .entry))) (t .start) s) ⌝ }
+    ensures area { λ _. ⌜ ((s : Series) → firstOf t (now (outputs .entry)) (now (nexts .entry)) (set .bits) ≡ some s
+        → now (area .exit) ≡ sets (now (area .entry)) 0 (sentTrace s)) ⌝ }
 {
+    let n = t.states;
+    let k = t.symbols;
+    let start = t.start;
     let approach = totals::write_before(totals, costs, nexts, n, k, start, area);
     let state = approach.state;
     let count = approach.count;
@@ -80,34 +92,37 @@ fn witness_of(
     let end = pairs::write_apart(square, nexts, n, k, p, q, area, at);
     let sent = end.sent;
     let received = end.received;
+    let kind = fault.kind;
     Witness {
         distance: totals[start],
         before: count,
-        kind: fault.bit,
+        kind,
         replacement: fault.replacement,
         sent: outputs[sent] as usize,
         received: outputs[received] as usize,
     }
 }
 
-// The finding for one fault set, from what all sets of a table and a reading share: the outputs of the states and the square of their distances.
+// The finding for one fault set, from what all sets of a table and a reading share.
 fn examine_set(
     outputs: &[u8],
     square: &[u16; SQUARE_SIZE],
     nexts: &[u8],
-    n: usize,
-    k: usize,
-    start: usize,
-    set: usize,
+    t: Shape,
+    set: FaultSet,
     area: &mut [u8],
 ) -> Finding
-    requires { ⌜ Rows stateLimit n k (now nexts) × (length (now outputs) ≡ n) × (start < n) × Squared (automatonOf n k (now nexts)) (differing (now outputs)) (now square) ⌝ }
-    ensures figures { λ r. ⌜ finding r ≡ answerOf n k (now (outputs .entry)) (now (nexts .entry)) set start (length (now (area .entry))) ⌝ }
-    ensures area { λ r. ⌜ now (area .exit) ≡ written (finding r) (witnessTrace (firstOf n k (now (outputs .entry)) (now (nexts .entry)) set start)) (now (area .entry)) ⌝ }
+    requires { ⌜ Posed t (now outputs) (now square) (now nexts) ⌝ }
+    ensures figures { λ r. ⌜ finding r
+        ≡ answerOf t (now (outputs .entry)) (now (nexts .entry)) (set .bits) (length (now (area .entry))) ⌝ }
+    ensures area { λ r. ⌜ now (area .exit)
+        ≡ written (finding r) (witnessTrace (firstOf t (now (outputs .entry)) (now (nexts .entry)) (set .bits)))
+            (now (area .entry)) ⌝ }
 {
-    let costs = faults::costs(square, nexts, n, k, set);
+    let start = t.start;
+    let costs = faults::costs(square, nexts, t.states, t.symbols, set);
     let mut totals = costs;
-    totals::relax(&mut totals, nexts, n, k);
+    totals::relax(&mut totals, nexts, t.states, t.symbols);
     let distance = totals[start];
     if distance == NEVER {
         return Finding::Immune;
@@ -124,48 +139,52 @@ fn examine_set(
         &costs,
         &totals,
         nexts,
-        n,
-        k,
-        start,
+        t,
         set,
         area,
     ))
 }
 
-// The finding for an accepted table.
+// The finding for a table under a reading.
+fn examine_reading(
+    marks: &[u8],
+    nexts: &[u8],
+    t: Shape,
+    set: FaultSet,
+    domain: usize,
+    area: &mut [u8],
+) -> Finding
+    requires { ⌜ TableIn t marks nexts ⌝ }
+    ensures figures { λ r. let m = monitorIn t (marks .entry) (nexts .entry) in ⌜ finding r
+        ≡ asks (roomQuestions (firstWitness m domain (set .bits)) (length (now (area .entry))))
+            (tableFigures m domain (set .bits)) ⌝ }
+    ensures area { λ r. let m = monitorIn t (marks .entry) (nexts .entry) in ⌜ now (area .exit)
+        ≡ written (finding r) (witnessTrace (firstWitness m domain (set .bits))) (now (area .entry)) ⌝ }
+{
+    let n = t.states;
+    let mut outputs = [0u8; STATE_LIMIT];
+    readings::write_readings(marks, nexts, t, domain, &mut outputs);
+    let read = &outputs[..n];
+    let square = pairs::distances(nexts, n, t.symbols, read);
+    examine_set(read, &square, nexts, t, set, area)
+}
+
+// The finding for an opened table: questions 9 and 10, and the set that the number stands for.
 fn examine_table(
     marks: &[u8],
     nexts: &[u8],
-    n: usize,
-    k: usize,
-    start: usize,
+    t: Shape,
     set: usize,
     domain: usize,
     area: &mut [u8],
 ) -> Finding
-    requires { ⌜ Table stateLimit n k start (now marks) (now nexts) ⌝ }
-    ensures figures { λ r. ⌜ finding r ≡ asks (roomQuestions (firstWitness (tableOf n k start (now (marks .entry)) (now (nexts .entry))) domain set) (length (now (area .entry)))) (tableFigures (tableOf n k start (now (marks .entry)) (now (nexts .entry))) domain set) ⌝ }
-    ensures area { λ r. ⌜ now (area .exit) ≡ written (finding r) (witnessTrace (firstWitness (tableOf n k start (now (marks .entry)) (now (nexts .entry))) domain set)) (now (area .entry)) ⌝ }
+    requires { ⌜ TableIn t marks nexts ⌝ }
+    ensures figures { λ r. let m = monitorIn t (marks .entry) (nexts .entry) in ⌜ finding r
+        ≡ asks (faultQuestions set domain (firstWitness m domain set) (length (now (area .entry))))
+            (tableFigures m domain set) ⌝ }
+    ensures area { λ r. let m = monitorIn t (marks .entry) (nexts .entry) in ⌜ now (area .exit)
+        ≡ written (finding r) (witnessTrace (firstWitness m domain set)) (now (area .entry)) ⌝ }
 {
-    let mut outputs = [0u8; STATE_LIMIT];
-    readings::write_readings(marks, nexts, n, k, domain, &mut outputs);
-    let read = &outputs[0..n];
-    let square = pairs::distances(nexts, n, k, read);
-    examine_set(read, &square, nexts, n, k, start, set, area)
-}
-
-// The fault question: whether one fault of the set can change what a trace of the table reads, by marks (domain 3) or by classes (domain 6).
-// The sent trace of a witness goes into the area, which is otherwise left as it was.
-pub fn examine(body: &[u8], set: usize, domain: usize, area: &mut [u8]) -> Finding
-    ensures figures { λ r. ⌜ finding r ≡ faultAnswer stateLimit (now (body .entry)) set domain (length (now (area .entry))) ⌝ }
-    ensures area { λ _. ⌜ now (area .exit) ≡ written (faultAnswer stateLimit (now (body .entry)) set domain (length (now (area .entry)))) (faultTrace (now (body .entry)) set domain) (now (area .entry)) ⌝ }
-{
-    match monitor::judge(body) {
-        Judgement::Refused(r) => {
-            return Finding::Refused(r);
-        }
-        Judgement::Accepted => {}
-    }
     if set > FaultSet::ALL {
         return Finding::Refused(Refusal {
             number: 9,
@@ -178,12 +197,33 @@ pub fn examine(body: &[u8], set: usize, domain: usize, area: &mut [u8]) -> Findi
             place: 0,
         });
     }
-    let marks = monitor::drawn_marks(body);
-    let nexts = monitor::next_states(body);
-    let n = basics::byte_at(body, 0);
-    let k = basics::byte_at(body, 1);
-    let start = basics::byte_at(body, 2);
-    examine_table(marks, nexts, n, k, start, set, domain, area)
+    examine_reading(marks, nexts, t, FaultSet::of(set), domain, area)
+}
+
+// The fault question: whether one fault of the set can change what a trace of the table reads, by marks (domain 3) or by
+// classes (domain 6). The sent trace of a witness goes into the area, which is otherwise left as it was.
+pub fn examine(body: &[u8], set: usize, domain: usize, area: &mut [u8]) -> Finding
+    ensures figures { λ r. ⌜ finding r
+        ≡ faultAnswer stateLimit (now (body .entry)) set domain (length (now (area .entry))) ⌝ }
+    ensures area { λ _. ⌜ now (area .exit)
+        ≡ written (faultAnswer stateLimit (now (body .entry)) set domain (length (now (area .entry))))
+            (faultTrace (now (body .entry)) set domain) (now (area .entry)) ⌝ }
+{
+    let mut marks = [0u8; STATE_LIMIT];
+    match monitor::open(body, &mut marks) {
+        Opened::Refused(r) => Finding::Refused(r),
+        Opened::Table(t) => {
+            let n = t.states;
+            examine_table(
+                &marks[..n],
+                monitor::next_states(body),
+                t,
+                set,
+                domain,
+                area,
+            )
+        }
+    }
 }
 
 // As many bytes as the longest witness can have by the bound that is proved.
@@ -196,63 +236,79 @@ fn scratch() -> [u8; ROOM]
     [0u8; ROOM]
 }
 
-// The finding for one fault set, by marks. The sent trace of a witness is not kept.
+// The finding for one fault set, by marks. The sent trace of a witness stays in the area.
 fn finding_in(
     marks: &[u8],
     square: &[u16; SQUARE_SIZE],
     nexts: &[u8],
-    n: usize,
-    k: usize,
-    start: usize,
+    t: Shape,
     set: FaultSet,
+    area: &mut [u8],
 ) -> Finding
-    requires { ⌜ Table stateLimit n k start (now marks) (now nexts) × Squared (automatonOf n k (now nexts)) (differing (now marks)) (now square) ⌝ }
-    ensures { λ r. ⌜ finding r ≡ answered (tableFigures (tableOf n k start (now (marks .entry)) (now (nexts .entry))) 3 (set .bits)) ⌝ }
+    requires { ⌜ TableIn t marks nexts
+        × Squared (automatonIn t (now nexts)) (differing (now marks)) (now square)
+        × (length (now area) ≡ horizon stateLimit) ⌝ }
+    ensures finding { λ r. ⌜ finding r
+        ≡ answered (tableFigures (monitorIn t (marks .entry) (nexts .entry)) 3 (set .bits)) ⌝ }
+    ensures area { λ _. ⌜ length (now (area .exit)) ≡ horizon stateLimit ⌝ }
 {
-    let mut area = scratch();
-    examine_set(marks, square, nexts, n, k, start, set.bits, &mut area)
+    examine_set(marks, square, nexts, t, set, area)
 }
 
-// The card of an accepted table. Its square is made once for all four faults.
-fn card_of(marks: &[u8], nexts: &[u8], n: usize, k: usize, start: usize) -> LinkCard
-    requires { ⌜ Table stateLimit n k start (now marks) (now nexts) ⌝ }
-    ensures { λ r. ⌜ cardValues r ≡ cardFigures (tableOf n k start (now (marks .entry)) (now (nexts .entry))) ⌝ }
+// The columns of a table: each fault alone, in the written order. The square is made once for all of them.
+fn columns_of(marks: &[u8], nexts: &[u8], t: Shape) -> [Column; KINDS]
+    requires { ⌜ TableIn t marks nexts ⌝ }
+    ensures { λ r. ⌜ found r ≡ columnsOf (monitorIn t (marks .entry) (nexts .entry)) ⌝ }
 {
-    let monitorability = classes::monitorability_of(marks, nexts, n, k, start);
-    let square = pairs::distances(nexts, n, k, marks);
-    let none = FaultSet::empty();
-    let loss_alone = none.with(FaultSet::LOSS);
-    let corruption_alone = none.with(FaultSet::CORRUPTION);
-    let repeat_alone = none.with(FaultSet::REPEAT);
-    let swap_alone = none.with(FaultSet::SWAP);
-    let loss = finding_in(marks, &square, nexts, n, k, start, loss_alone);
-    let corruption = finding_in(marks, &square, nexts, n, k, start, corruption_alone);
-    let repeat = finding_in(marks, &square, nexts, n, k, start, repeat_alone);
-    let swap = finding_in(marks, &square, nexts, n, k, start, swap_alone);
-    LinkCard {
-        states: n,
-        monitorability,
-        loss,
-        corruption,
-        repeat,
-        swap,
+    let square = pairs::distances(nexts, t.states, t.symbols, marks);
+    let mut area = scratch();
+    let mut columns = [Column {
+        finding: Finding::Immune,
+    }; KINDS];
+    let mut rank = 0;
+    while rank < KINDS {
+        let set = FaultSet::empty().with(faults::kind_at(rank));
+        let finding = finding_in(marks, &square, nexts, t, set, &mut area);
+        columns[rank] = Column { finding };
+        rank += 1;
     }
+    columns
+}
+
+// The card of an opened table.
+fn card_of(marks: &[u8], nexts: &[u8], t: Shape) -> LinkCard
+    requires { ⌜ TableIn t marks nexts ⌝ }
+    ensures { λ r. ⌜ carded r ≡ cardOf (monitorIn t (marks .entry) (nexts .entry)) ⌝ }
+{
+    let summary = Summary::Table {
+        states: t.states,
+        monitorability: classes::monitorability_of(marks, nexts, t),
+    };
+    let columns = columns_of(marks, nexts, t);
+    LinkCard { summary, columns }
+}
+
+// The card of a refused table.
+fn refused_card(r: Refusal) -> LinkCard
+    ensures { λ c. ⌜ carded c ≡ refusedCard r ⌝ }
+{
+    let summary = Summary::Refused(r);
+    let columns = [Column {
+        finding: Finding::Refused(r),
+    }; KINDS];
+    LinkCard { summary, columns }
 }
 
 // The card of a table: its states, its monitorability, and the finding for each fault alone, by marks.
-pub fn card(body: &[u8]) -> Carded
+pub fn card(body: &[u8]) -> LinkCard
     ensures { λ r. ⌜ carded r ≡ cardAnswer stateLimit (now (body .entry)) ⌝ }
 {
-    match monitor::judge(body) {
-        Judgement::Refused(r) => {
-            return Carded::Refused(r);
+    let mut marks = [0u8; STATE_LIMIT];
+    match monitor::open(body, &mut marks) {
+        Opened::Refused(r) => refused_card(r),
+        Opened::Table(t) => {
+            let n = t.states;
+            card_of(&marks[..n], monitor::next_states(body), t)
         }
-        Judgement::Accepted => {}
     }
-    let marks = monitor::drawn_marks(body);
-    let nexts = monitor::next_states(body);
-    let n = basics::byte_at(body, 0);
-    let k = basics::byte_at(body, 1);
-    let start = basics::byte_at(body, 2);
-    Carded::Card(card_of(marks, nexts, n, k, start))
 }

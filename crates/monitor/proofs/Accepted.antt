@@ -1,19 +1,25 @@
--- What holds of an accepted body, and of the parts that callers lend of it.
-use mathlib.Core.Path.{_≡_, sym, ap, _∙_}
+-- What holds of an accepted body, and what opening hands out of it.
+use mathlib.Core.Path.{_≡_, sym, ap, _∙_, subst}
 use mathlib.Core.List.{List, [], _∷_, _++_}
-use Prim.Native.Nat.{ℕ, _+_, _*_}
+use Prim.Native.Nat.{ℕ, _+_, _*_, _≤_}
 use native.Mathlib.Nat.{le-of-suc-le-suc}
 use native.Mathlib.Omega.{arith}
 use lib.Arith.{digits-lt}
-use lib.ListN.{length}
+use lib.ListN.{length, take, length-take}
+use lib.Seq.{take-at, take-length}
 use borrow.Author.Tests.{eqb-true}
-use Rattle.theory.specs.Answer.{Question, refused, answered, asks}
-use Rattle.theory.specs.Monitor.{WellFormed}
+use Rattle.theory.specs.Answer.{Question, Answer, answered, asks, written}
+use Rattle.theory.specs.Monitor.{Monitor, WellFormed}
 use Rattle.theory.proofs.Below.{first-none}
-use Rattle.theory.proofs.Answer.{asks-yes, asks-both, asks-refused, asks-passed}
+use Rattle.theory.proofs.Answer.{asks-yes, asks-both, asks-refused, asks-passed, untouched}
 use Rattle.monitor.specs.Format.{statesOf, symbolsOf, startOf, drawnMarks, marks, nexts, tableOf, monitorOf, Table}
 use Rattle.monitor.specs.Questions.{firstNotBelow, revokes, firstRevoking, question6, question7, question8, headQuestions, rowQuestions, tableQuestions, judgeAnswer, judgement}
+use Rattle.basics.specs.Refusals.{refusal}
 use Rattle.basics.specs.declared.Refusal.{Refusal}
+use Rattle.monitor.specs.Opening.{Accepts, Opens}
+use Rattle.monitor.specs.declared.Opened.{Opened}
+use Rattle.monitor.specs.declared.Opened.the-variants as opened
+use Rattle.monitor.specs.declared.Shape.{Shape}
 use Rattle.monitor.specs.declared.Judgement.{Judgement}
 use Rattle.monitor.specs.declared.Judgement.the-variants.{Accepted, Refused}
 use Rattle.monitor.proofs.Revoking.{verdict-stays}
@@ -53,25 +59,89 @@ module _ (limit : ℕ) (b : List ℕ) where
       let eight = eqb-true (firstRevoking (drawnMarks b) (nexts b) (symbolsOf b)) (length (nexts b)) (q₈ .0) in
       record { rows = rows-of h seven; marks-length = marks-length h; well-formed = well-formed-of h six seven eight }
 
-  -- ---- what a caller of `judge` answers: its refusal, or the further questions that the caller asks
+-- ---- opening: r is what judging answers, vs and space the marks and the array after they are copied into it
 
-  module _ {r : Judgement} (e : judgement r ≡ judgeAnswer limit b) where
-    pub judged-refused : (more : List Question) (values : List ℕ) {x : Refusal} → r ≡ Refused x → asks (tableQuestions limit b ++ more) values ≡ refused (x .number) (x .place)
-    unfolding judgeAnswer
-    judged-refused more values h = asks-refused (tableQuestions limit b) more values [] (sym e ∙ ap judgement h)
+module _ (limit : ℕ) (b : List ℕ) {r : Judgement} (e : judgement r ≡ judgeAnswer limit b) where
+  pub opened-refused : {x : Refusal} → r ≡ Refused x → judgeAnswer limit b ≡ refusal x
+  opened-refused h = sym e ∙ ap judgement h
 
-    pub judged-accepted : r ≡ Accepted → judgeAnswer limit b ≡ answered []
-    judged-accepted h = sym e ∙ ap judgement h
+  module _ (h : r ≡ Accepted) {vs : List ℕ} (ev : vs ≡ drawnMarks b) where
+    accepted : judgeAnswer limit b ≡ answered []
+    accepted = sym e ∙ ap judgement h
 
-  pub accepted-asks : (more : List Question) (values : List ℕ) → judgeAnswer limit b ≡ answered [] → asks (tableQuestions limit b ++ more) values ≡ asks more values
-  unfolding judgeAnswer
-  accepted-asks more values e = asks-passed (tableQuestions limit b) more values [] e
+    marks-sized : length vs ≡ statesOf b
+    marks-sized = ap length ev ∙ accepted-table limit b accepted .marks-length
 
--- ---- numbers and parts that are equal to those of the body
+    pub marks-fit : length vs ≤ limit
+    marks-fit = rw marks-sized (accepted-table limit b accepted .rows .states-most)
 
-module _ (b : List ℕ) {n k s : ℕ} {vs ts : List ℕ} (en : n ≡ statesOf b) (ek : k ≡ symbolsOf b) (es : s ≡ startOf b) (ev : vs ≡ marks b) (et : ts ≡ nexts b) where
-  pub table-lent : (limit : ℕ) → judgeAnswer limit b ≡ answered [] → Table limit n k s vs ts
-  table-lent limit e = rw (en, ek, es, ev, et) (accepted-table limit b e)
+    pub opened-table : {n k s : ℕ} {space : List ℕ} (rest : List ℕ) → n ≡ statesOf b → k ≡ symbolsOf b → s ≡ startOf b → space ≡ take (length vs) vs ++ rest
+        → Accepts limit b (record { states = n; symbols = k; start = s }) space
+    opened-table {n} {space = space} rest en ek es copied =
+        let front = take (length vs) vs in
+        let marks-are : take n space ≡ marks b =
+          ap (take n) copied ∙ take-at front rest n (ap length (take-length vs) ∙ marks-sized ∙ sym en) ∙ take-length vs ∙ ev in
+        record {
+          accepted = accepted;
+          table = rw (marks-are, en, ek, es) (accepted-table limit b accepted);
+          monitor = rw (marks-are, en, ek, es);
+        }
 
-  pub monitor-lent : tableOf n k s vs ts ≡ monitorOf b
-  monitor-lent = rw (en, ek, es, ev, et)
+-- ---- what a call answers after opening: the refusal, or its own questions of the table handed out
+
+module _ (limit : ℕ) (b space : List ℕ) {r : Opened} (o : Opens limit b r space) where
+  pub opened-no : {x : Refusal} → r ≡ opened.Refused x → judgeAnswer limit b ≡ refusal x
+  opened-no e = subst (λ (z : Opened). Opens limit b z space) e o
+
+  pub opened-yes : {t : Shape} → r ≡ opened.Table t → Accepts limit b t space
+  opened-yes e = subst (λ (z : Opened). Opens limit b z space) e o
+
+pub refused-asks : (limit : ℕ) (b : List ℕ) (more : List Question) (values : List ℕ) {x : Refusal} → judgeAnswer limit b ≡ refusal x
+    → asks (tableQuestions limit b ++ more) values ≡ refusal x
+unfolding judgeAnswer
+refused-asks limit b more values e = asks-refused (tableQuestions limit b) more values [] e
+
+pub accepted-asks : (limit : ℕ) (b : List ℕ) (more : List Question) (values : List ℕ) → judgeAnswer limit b ≡ answered []
+    → asks (tableQuestions limit b ++ more) values ≡ asks more values
+unfolding judgeAnswer
+accepted-asks limit b more values e = asks-passed (tableQuestions limit b) more values [] e
+
+-- ---- t, space and ts are the shape, the array of the marks and the next states handed out
+
+module _ {limit : ℕ} {b : List ℕ} {t : Shape} {space : List ℕ} (h : Accepts limit b t space) where
+  pub marks-counted : t .states ≡ length (take (t .states) space)
+  marks-counted = sym (h .table .marks-length)
+
+  pub marks-lie : t .states ≤ length space
+  marks-lie = omega (arith, marks-counted, length-take (t .states) space)
+
+  module _ {ts : List ℕ} (et : ts ≡ nexts b) where
+    pub table-handed : Table limit (t .states) (t .symbols) (t .start) (take (t .states) space) ts
+    table-handed = rw et (h .table)
+
+    abbrev handed : Monitor
+    handed = tableOf (t .states) (t .symbols) (t .start) (take (t .states) space) ts
+
+    monitor-handed : handed ≡ monitorOf b
+    monitor-handed = rw et (h .monitor)
+
+    -- a call by its questions and its values
+    module _ (questions : Monitor → List Question) (figures : Monitor → List ℕ) where
+      pub opened-asks : asks (questions handed) (figures handed) ≡ asks (tableQuestions limit b ++ questions (monitorOf b)) (figures (monitorOf b))
+      opened-asks =
+          ap (λ (m : Monitor). asks (questions m) (figures m)) monitor-handed
+          ∙ sym (accepted-asks limit b (questions (monitorOf b)) (figures (monitorOf b)) (h .accepted))
+
+      -- and by the bytes that it writes
+      pub opened-writes : (bytes : Monitor → List ℕ) (area : List ℕ) {answer : Answer} {after : List ℕ}
+          → answer ≡ asks (questions handed) (figures handed) → after ≡ written answer (bytes handed) area
+          → (answer ≡ asks (tableQuestions limit b ++ questions (monitorOf b)) (figures (monitorOf b)))
+          × (after ≡ written (asks (tableQuestions limit b ++ questions (monitorOf b)) (figures (monitorOf b))) (bytes (monitorOf b)) area)
+      opened-writes bytes area {answer} ea eb =
+          let same = ea ∙ opened-asks in
+          (same, eb ∙ ap (λ (m : Monitor). written answer (bytes m) area) monitor-handed ∙ ap (λ (a : Answer). written a (bytes (monitorOf b)) area) same)
+
+-- a refused body, likewise
+pub refused-writes : (limit : ℕ) (b : List ℕ) (more : List Question) (values bytes area : List ℕ) {x : Refusal} → judgeAnswer limit b ≡ refusal x
+    → (refusal x ≡ asks (tableQuestions limit b ++ more) values) × (area ≡ written (asks (tableQuestions limit b ++ more) values) bytes area)
+refused-writes limit b more values bytes area e = (let no = refused-asks limit b more values e in (sym no, untouched bytes area no))

@@ -1,2 +1,3 @@
 pub mod Format
 pub mod Questions
+pub mod Opening

@@ -5,34 +5,36 @@ use Rattle.theory.specs.Automaton.{run}
 use Rattle.theory.specs.Answer.{Question, Answer, answered, asks}
 use Rattle.theory.specs.Monitor.{Monitor, reading}
 use Rattle.basics.specs.Refusals.{refusal}
-use Rattle.monitor.specs.Format.{statesOf, symbolsOf, monitorOf}
+use Rattle.monitor.specs.Format.{monitorOf}
 use Rattle.monitor.specs.Questions.{tableQuestions, question10, question11, question12}
 use Rattle.readings.specs.declared.Stepped.{Stepped}
 use Rattle.readings.specs.declared.Traced.{Traced}
 
 -- a step asks 1 to 8, 10, 11, 12; "its one message has place 0"
-abbrev pub stepQuestions : List ℕ → ℕ → ℕ → ℕ → List Question
-stepQuestions b d q a = question10 d ∷ question11 (statesOf b) q ∷ question12 (symbolsOf b) (a ∷ []) ∷ []
+abbrev pub stepQuestions : ℕ → ℕ → ℕ → Monitor → List Question
+stepQuestions d q a m =
+    question10 d ∷ question11 (m .automaton .states) q ∷ question12 (m .automaton .symbols) (a ∷ []) ∷ []
 
 -- "A step answers the next state and its reading"
-abbrev pub stepFigures : Monitor → ℕ → ℕ → ℕ → List ℕ
-stepFigures m d q a = m .automaton .next q a ∷ reading m d (m .automaton .next q a) ∷ []
+abbrev pub stepFigures : ℕ → ℕ → ℕ → Monitor → List ℕ
+stepFigures d q a m = m .automaton .next q a ∷ reading m d (m .automaton .next q a) ∷ []
 
 -- the answer of a step
 unfoldable pub stepAnswer : ℕ → List ℕ → ℕ → ℕ → ℕ → Answer
-stepAnswer limit b d q a = asks (tableQuestions limit b ++ stepQuestions b d q a) (stepFigures (monitorOf b) d q a)
+stepAnswer limit b d q a =
+    asks (tableQuestions limit b ++ stepQuestions d q a (monitorOf b)) (stepFigures d q a (monitorOf b))
 
 -- a trace asks 1 to 8, 10, 12
-abbrev pub traceQuestions : List ℕ → ℕ → List ℕ → List Question
-traceQuestions b d w = question10 d ∷ question12 (symbolsOf b) w ∷ []
+abbrev pub traceQuestions : ℕ → List ℕ → Monitor → List Question
+traceQuestions d w m = question10 d ∷ question12 (m .automaton .symbols) w ∷ []
 
 -- "A trace answers the reading of the state reached from the start."
-abbrev pub traceFigures : Monitor → ℕ → List ℕ → List ℕ
-traceFigures m d w = reading m d (run (m .automaton) (m .start) w) ∷ []
+abbrev pub traceFigures : ℕ → List ℕ → Monitor → List ℕ
+traceFigures d w m = reading m d (run (m .automaton) (m .start) w) ∷ []
 
 -- the answer of a trace
 unfoldable pub traceAnswer : ℕ → List ℕ → ℕ → List ℕ → Answer
-traceAnswer limit b d w = asks (tableQuestions limit b ++ traceQuestions b d w) (traceFigures (monitorOf b) d w)
+traceAnswer limit b d w = asks (tableQuestions limit b ++ traceQuestions d w (monitorOf b)) (traceFigures d w (monitorOf b))
 
 -- 01's numbers of the two answers
 abbrev pub stepped : Stepped → Answer

@@ -1,19 +1,22 @@
 // What a monitor reads: after one step from a state, and after a trace from its start.
 use basics::Refusal;
-use monitor::Judgement;
+use monitor::Opened;
+use monitor::Shape;
+use theory::STATE_LIMIT;
 ghost use mathlib.Core.Path.{_≡_};
 ghost use mathlib.Core.Bool.{_||_};
 ghost use mathlib.Core.List.{_++_};
-ghost use Prim.Native.Nat.{ℕ, _≤_, _<_};
+ghost use Prim.Native.Nat.{_≤_, _<_};
 ghost use lib.Dec.{eqb};
-ghost use lib.ListN.{length, getD, drop};
+ghost use lib.ListN.{length, drop};
 ghost use Rattle.theory.specs.Below.{values};
 ghost use Rattle.theory.specs.Automaton.{run};
-ghost use Rattle.theory.specs.Answer.{Answer};
+ghost use Rattle.theory.specs.Answer.{asks};
 ghost use Rattle.theory.specs.Monitor.{reading, stateLimit};
-ghost use Rattle.monitor.specs.Format.{Rows, Table, automatonOf, tableOf};
+ghost use Rattle.monitor.specs.Format.{Rows, graph};
+ghost use Rattle.monitor.specs.Opening.{monitorIn, TableIn};
 ghost use Rattle.monitor.specs.Questions.{firstNotBelow};
-ghost use Rattle.readings.specs.Readings.{stepFigures, stepAnswer, stepped, traceFigures, traceAnswer, traced};
+ghost use Rattle.readings.specs.Readings.{stepQuestions, stepFigures, stepAnswer, stepped, traceQuestions, traceFigures, traceAnswer, traced};
 
 // Where a step leads, and what is read there.
 pub enum Stepped {
@@ -38,51 +41,39 @@ pub fn is_reading(domain: usize) -> bool
 }
 
 // What state q reads.
-fn read(marks: &[u8], nexts: &[u8], n: usize, k: usize, domain: usize, q: usize) -> usize
-    requires { ⌜ Rows stateLimit n k (now nexts) × (length (now marks) ≡ n) × (q < n) ⌝ }
-    ensures { λ r. ⌜ ((s : ℕ) → r ≡ reading (tableOf n k s (now (marks .entry)) (now (nexts .entry))) domain q) ⌝ }
+fn read(marks: &[u8], nexts: &[u8], t: Shape, domain: usize, q: usize) -> usize
+    requires { ⌜ TableIn t marks nexts
+        × (q < t .states) ⌝ }
+    ensures { λ r. ⌜ r ≡ reading (monitorIn t (marks .entry) (nexts .entry)) domain q ⌝ }
 {
     if domain == 3 {
         return marks[q] as usize;
     }
-    classes::class_of(marks, nexts, n, k, q) as usize
-}
-
-// Copies the marks into the first places of the area.
-fn write_marks(marks: &[u8], area: &mut [u8])
-    requires { ⌜ length (now marks) ≤ length (now area) ⌝ }
-    ensures { λ _. ⌜ now (area .exit) ≡ values (length (now (marks .entry))) (λ q. getD (now (marks .entry)) q 0) ++ drop (length (now (marks .entry))) (now (area .entry)) ⌝ }
-{
-    let mut q = 0;
-    while q < marks.len() {
-        area[q] = marks[q];
-        q += 1;
-    }
+    classes::class_of(marks, nexts, t, q) as usize
 }
 
 // What every state reads, into the first places of the area.
-pub fn write_readings(
-    marks: &[u8],
-    nexts: &[u8],
-    n: usize,
-    k: usize,
-    domain: usize,
-    area: &mut [u8],
-)
-    requires { ⌜ Rows stateLimit n k (now nexts) × (length (now marks) ≡ n) × (n ≤ length (now area)) ⌝ }
-    ensures { λ _. ⌜ ((s : ℕ) → now (area .exit) ≡ values n (reading (tableOf n k s (now (marks .entry)) (now (nexts .entry))) domain) ++ drop n (now (area .entry))) ⌝ }
+pub fn write_readings(marks: &[u8], nexts: &[u8], t: Shape, domain: usize, area: &mut [u8])
+    requires { ⌜ TableIn t marks nexts
+        × (t .states ≤ length (now area)) ⌝ }
+    ensures { λ _. ⌜ now (area .exit)
+        ≡ values (t .states) (reading (monitorIn t (marks .entry) (nexts .entry)) domain)
+            ++ drop (t .states) (now (area .entry)) ⌝ }
 {
     if domain == 3 {
-        write_marks(marks, area);
+        bytes::copy(marks, area);
         return;
     }
-    classes::write_all_classes(marks, nexts, n, k, area);
+    classes::write_all_classes(marks, nexts, t, area);
 }
 
 // The state that the symbols lead to from start.
 fn state_after(nexts: &[u8], n: usize, k: usize, start: usize, symbols: &[u8]) -> usize
-    requires { ⌜ Rows stateLimit n k (now nexts) × (start < n) × (firstNotBelow k (now symbols) ≡ length (now symbols)) ⌝ }
-    ensures { λ r. ⌜ (r ≡ run (automatonOf n k (now (nexts .entry))) start (now (symbols .entry))) × (r < n) ⌝ }
+    requires { ⌜ Rows stateLimit n k (now nexts)
+        × (start < n)
+        × (firstNotBelow k (now symbols) ≡ length (now symbols)) ⌝ }
+    ensures state { λ r. ⌜ r ≡ run (graph n k (nexts .entry)) start (now (symbols .entry)) ⌝ }
+    ensures inside { λ r. ⌜ r < n ⌝ }
 {
     let mut q = start;
     let mut i = 0;
@@ -93,23 +84,42 @@ fn state_after(nexts: &[u8], n: usize, k: usize, start: usize, symbols: &[u8]) -
     q
 }
 
-// A step of an accepted table, from one of its states under one of its symbols.
+// A step of an opened table.
 fn step_table(
     marks: &[u8],
     nexts: &[u8],
-    n: usize,
-    k: usize,
+    t: Shape,
     domain: usize,
     state: usize,
     symbol: usize,
 ) -> Stepped
-    requires { ⌜ Rows stateLimit n k (now nexts) × (length (now marks) ≡ n) × (state < n) × (symbol < k) ⌝ }
-    ensures { λ r. ⌜ ((s : ℕ) → stepped r ≡ Answer.answered (stepFigures (tableOf n k s (now (marks .entry)) (now (nexts .entry))) domain state symbol)) ⌝ }
+    requires { ⌜ TableIn t marks nexts ⌝ }
+    ensures { λ r. ⌜ stepped r
+        ≡ asks (stepQuestions domain state symbol (monitorIn t (marks .entry) (nexts .entry)))
+            (stepFigures domain state symbol (monitorIn t (marks .entry) (nexts .entry))) ⌝ }
 {
-    let next = monitor::successor(nexts, n, k, state, symbol);
+    if !is_reading(domain) {
+        return Stepped::Refused(Refusal {
+            number: 10,
+            place: 0,
+        });
+    }
+    if state >= t.states {
+        return Stepped::Refused(Refusal {
+            number: 11,
+            place: 0,
+        });
+    }
+    if symbol >= t.symbols {
+        return Stepped::Refused(Refusal {
+            number: 12,
+            place: 0,
+        });
+    }
+    let next = monitor::successor(nexts, t.states, t.symbols, state, symbol);
     Stepped::To {
         state: next,
-        reading: read(marks, nexts, n, k, domain, next),
+        reading: read(marks, nexts, t, domain, next),
     }
 }
 
@@ -117,53 +127,46 @@ fn step_table(
 pub fn step(body: &[u8], domain: usize, state: usize, symbol: usize) -> Stepped
     ensures { λ r. ⌜ stepped r ≡ stepAnswer stateLimit (now (body .entry)) domain state symbol ⌝ }
 {
-    match monitor::judge(body) {
-        Judgement::Refused(r) => {
-            return Stepped::Refused(r);
+    let mut marks = [0u8; STATE_LIMIT];
+    match monitor::open(body, &mut marks) {
+        Opened::Refused(r) => Stepped::Refused(r),
+        Opened::Table(t) => {
+            let n = t.states;
+            step_table(
+                &marks[..n],
+                monitor::next_states(body),
+                t,
+                domain,
+                state,
+                symbol,
+            )
         }
-        Judgement::Accepted => {}
     }
+}
+
+// A trace of an opened table.
+fn trace_table(marks: &[u8], nexts: &[u8], t: Shape, domain: usize, symbols: &[u8]) -> Traced
+    requires { ⌜ TableIn t marks nexts ⌝ }
+    ensures { λ r. ⌜ traced r
+        ≡ asks (traceQuestions domain (now (symbols .entry)) (monitorIn t (marks .entry) (nexts .entry)))
+            (traceFigures domain (now (symbols .entry)) (monitorIn t (marks .entry) (nexts .entry))) ⌝ }
+{
     if !is_reading(domain) {
-        return Stepped::Refused(Refusal {
+        return Traced::Refused(Refusal {
             number: 10,
             place: 0,
         });
     }
-    let n = basics::byte_at(body, 0);
-    let k = basics::byte_at(body, 1);
-    if state >= n {
-        return Stepped::Refused(Refusal {
-            number: 11,
-            place: 0,
-        });
-    }
-    if symbol >= k {
-        return Stepped::Refused(Refusal {
+    let wrong = monitor::first_not_below(symbols, t.symbols as u8);
+    if wrong < symbols.len() {
+        return Traced::Refused(Refusal {
             number: 12,
-            place: 0,
+            place: wrong,
         });
     }
-    let marks = monitor::drawn_marks(body);
-    let nexts = monitor::next_states(body);
-    step_table(marks, nexts, n, k, domain, state, symbol)
-}
-
-// A trace of an accepted table.
-fn trace_table(
-    marks: &[u8],
-    nexts: &[u8],
-    n: usize,
-    k: usize,
-    start: usize,
-    domain: usize,
-    symbols: &[u8],
-) -> Traced
-    requires { ⌜ Table stateLimit n k start (now marks) (now nexts) × (firstNotBelow k (now symbols) ≡ length (now symbols)) ⌝ }
-    ensures { λ r. ⌜ traced r ≡ Answer.answered (traceFigures (tableOf n k start (now (marks .entry)) (now (nexts .entry))) domain (now (symbols .entry))) ⌝ }
-{
-    let q = state_after(nexts, n, k, start, symbols);
+    let q = state_after(nexts, t.states, t.symbols, t.start, symbols);
     Traced::Reads {
-        reading: read(marks, nexts, n, k, domain, q),
+        reading: read(marks, nexts, t, domain, q),
     }
 }
 
@@ -171,29 +174,12 @@ fn trace_table(
 pub fn trace(body: &[u8], domain: usize, symbols: &[u8]) -> Traced
     ensures { λ r. ⌜ traced r ≡ traceAnswer stateLimit (now (body .entry)) domain (now (symbols .entry)) ⌝ }
 {
-    match monitor::judge(body) {
-        Judgement::Refused(r) => {
-            return Traced::Refused(r);
+    let mut marks = [0u8; STATE_LIMIT];
+    match monitor::open(body, &mut marks) {
+        Opened::Refused(r) => Traced::Refused(r),
+        Opened::Table(t) => {
+            let n = t.states;
+            trace_table(&marks[..n], monitor::next_states(body), t, domain, symbols)
         }
-        Judgement::Accepted => {}
     }
-    if !is_reading(domain) {
-        return Traced::Refused(Refusal {
-            number: 10,
-            place: 0,
-        });
-    }
-    let wrong = monitor::first_not_below(symbols, body[1]);
-    if wrong < symbols.len() {
-        return Traced::Refused(Refusal {
-            number: 12,
-            place: wrong,
-        });
-    }
-    let marks = monitor::drawn_marks(body);
-    let nexts = monitor::next_states(body);
-    let n = basics::byte_at(body, 0);
-    let k = basics::byte_at(body, 1);
-    let start = basics::byte_at(body, 2);
-    trace_table(marks, nexts, n, k, start, domain, symbols)
 }

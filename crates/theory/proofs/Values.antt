@@ -6,8 +6,8 @@ use Prim.Native.Nat.{ℕ, zero, suc, _+_, _≤_, _<_}
 use native.Mathlib.Nat.{le-refl, le-of-suc-le-suc, not-suc-le-zero, eq-or-lt-of-le}
 use native.Mathlib.Numerals.{add-one}
 use native.Mathlib.Omega.{arith}
-use lib.ListN.{length, getD, drop, set, length-append, length-drop}
-use lib.Seq.{drop-cons, set-at, getD-at}
+use lib.ListN.{length, getD, take, drop, set, length-append, length-drop}
+use lib.Seq.{drop-cons, take-suc, set-at, getD-at}
 use Rattle.theory.specs.Below.{values}
 
 pub length-values : (n : ℕ) (f : ℕ → ℕ) → length (values n f) ≡ n
@@ -19,6 +19,12 @@ pub values-same : (n : ℕ) (f g : ℕ → ℕ) → ((i : ℕ) → i < n → f i
 unfolding values
 values-same zero f g h = refl
 values-same (suc n) f g h = rw (h n (le-refl (suc n)), values-same n f g (λ i l. h i (omega (arith, l))))
+
+-- the values of a list are the list
+pub values-front : (l : List ℕ) (n : ℕ) → n ≤ length l → values n (λ q. getD l q 0) ≡ take n l
+unfolding values
+values-front l zero h = refl
+values-front l (suc n) h = ap (λ (front : List ℕ). front ++ (getD l n 0 ∷ [])) (values-front l n (omega (arith, h))) ∙ sym (take-suc l n 0 h)
 
 -- the values at the numbers below i stand in front of what is left of the area
 abbrev pub filled : (ℕ → ℕ) → List ℕ → ℕ → List ℕ

@@ -15,7 +15,7 @@ returns : tie.Need-returns
 returns c =
     let a = c .before .before .before .before .args in
     let o = c .before .outlook-of .ensures in
-    λ s. c .class-by .ensures ∙ class-by-is (a .k) s (a .marks .now) (a .nexts .now) (o .0) (o .1) (a .q) (c .before .before .before .before .pre .2)
+    c .class-by .ensures ∙ class-by-is (a .t .symbols) (a .t .start) (a .marks .now) (a .nexts .now) (o .0) (o .1) (a .q) (c .before .before .before .before .pre .1)
 
 pub class-of-spec : {M : Type 1} → statement M
 class-of-spec = tie.close (tie.spec outlook-of-requires class-by-requires returns)

@@ -1,76 +1,72 @@
--- `classify` meets its contract: each return has its law in Entry.
+-- `classify` meets its contract.
 use borrow.Author.Needs.{needs}
+use lib.ListN.{length}
 use Rattle.theory.specs.Monitor.{stateLimit}
-use Rattle.monitor.proofs.Accepted.{judged-accepted, table-lent, monitor-lent}
-use Rattle.classes.proofs.Entry.{classify-judged, classify-short, classify-fits}
+use Rattle.monitor.specs.Format.{monitorOf}
+use Rattle.monitor.proofs.Accepted.{opened-no, opened-yes, marks-counted, marks-lie, table-handed, opened-writes, refused-writes}
+use Rattle.classes.specs.Classify.{classList, classifyQuestions, classifyFigures, classifyAnswer}
 use Rattle.classes.proofs.classify.Statement.{statement}
 use Rattle.classes.proofs.classify.Tie as tie
 
-judge-requires : tie.Need-judge-requires
-judge-requires c κs = search needs
+slice-aggregate-open : tie.Need-slice-aggregate-open
+slice-aggregate-open c = search needs
+
+open-requires : tie.Need-open-requires
+open-requires c κs = search needs
 
 enum-known-r : tie.Need-enum-known-r
 enum-known-r c = search needs
 
-returns : tie.Need-returns
-returns c = classify-judged stateLimit (c .before .before .before .before .before .before .args .body .now) (c .before .before .before .before .before .before .args .area .now) (c .before .before .before .judge .ensures) (c .before .r .given .1)
+enum-known-t : tie.Need-enum-known-t
+enum-known-t c = search needs
 
-enum-told : tie.Need-enum-told
-enum-told c = search needs
+array-share-prefix-marks : tie.Need-array-share-prefix-marks
+array-share-prefix-marks c = marks-lie (opened-yes stateLimit _ _ (c .before .before .before .before .«open» .ensures) (c .before .t .given .1))
 
-byte-at-requires : tie.Need-byte-at-requires
-byte-at-requires c κs = search needs
-
-returns-2 : tie.Need-returns-2
-returns-2 c =
-    let s = c .before .before .before .before .before .before .before in
-    classify-short stateLimit (s .args .body .now) (s .args .area .now) (judged-accepted stateLimit (s .args .body .now) (c .before .before .before .before .judge .ensures) (c .before .before .enum-told .given .1)) (c .before .byte-at .ensures .0) (c .if1 .taken)
-
-drawn-marks-requires : tie.Need-drawn-marks-requires
-drawn-marks-requires c κs = search needs
+slice-aggregate-classify-table : tie.Need-slice-aggregate-classify-table
+slice-aggregate-classify-table c = marks-counted (opened-yes stateLimit _ _ (c .before .before .before .before .before .«open» .ensures) (c .before .before .t .given .1))
 
 next-states-requires : tie.Need-next-states-requires
 next-states-requires c κs = search needs
 
-byte-at-requires-2 : tie.Need-byte-at-requires-2
-byte-at-requires-2 c κs = search needs
-
-byte-at-requires-3 : tie.Need-byte-at-requires-3
-byte-at-requires-3 c κs = search needs
-
 classify-table-requires : tie.Need-classify-table-requires
 classify-table-requires c κs =
-    let b = c .before .before .before .before .before .before .before .before .before .before .before .before .args .body .now in (
-      table-lent b (c .before .before .before .before .before .before .byte-at .ensures .0) (c .before .before .byte-at2 .ensures .0) (c .before .byte-at3 .ensures .0) (c .before .before .before .before .drawn-marks .ensures) (c .before .before .before .next-states .ensures)
-          stateLimit (judged-accepted stateLimit b (c .before .before .before .before .before .before .before .before .before .judge .ensures) (c .before .before .before .before .before .before .before .enum-told .given .1)),
-      c .before .before .before .before .before .if1 .left,
-    )
+    table-handed (opened-yes stateLimit _ _ (c .before .before .before .before .before .before .before .«open» .ensures) (c .before .before .before .before .t .given .1))
+    (c .before .next-states .ensures)
+
+returns : tie.Need-returns
+unfolding classifyAnswer
+returns c =
+    let a = c .before .before .before .before .before .before .before .before .args in
+    let m = monitorOf (a .body .now) in
+    let area = a .area .now in
+    refused-writes stateLimit (a .body .now) (classifyQuestions (length area) m) (classifyFigures m) (classList m) area
+    (opened-no stateLimit (a .body .now) _ (c .before .before .before .before .«open» .ensures) (c .before .r .given .1))
 
 same-length : tie.Need-same-length
 same-length c = search needs
 
-returns-3 : tie.Need-returns-3
-returns-3 c =
-    let s = c .before .before .before .before .before .before .before .before .before .before .before .before .before .before .before in
-    let b = s .args .body .now in
-    let t = c .before .before .classify-table .ensures in
-    classify-fits stateLimit b (s .args .area .now) (judged-accepted stateLimit b (c .before .before .before .before .before .before .before .before .before .before .before .before .judge .ensures) (c .before .before .before .before .before .before .before .before .before .before .enum-told .given .1)) (c .before .before .before .before .before .before .before .before .before .byte-at .ensures .0) _ (c .before .before .before .before .before .before .before .before .if1 .left)
-    (monitor-lent b (c .before .before .before .before .before .before .before .before .before .byte-at .ensures .0) (c .before .before .before .before .before .byte-at2 .ensures .0) (c .before .before .before .before .byte-at3 .ensures .0) (c .before .before .before .before .before .before .before .drawn-marks .ensures) (c .before .before .before .before .before .before .next-states .ensures)) (t .0) (t .1)
+returns-2 : tie.Need-returns-2
+unfolding classifyAnswer
+returns-2 c =
+    let area = c .before .before .before .before .before .before .before .before .before .before .before .before .before .before .args .area .now in
+    let opened = c .before .before .before .before .before .before .before .before .before .before .«open» .ensures in
+    let e = c .before .before .classify-table .ensures in
+    opened-writes (opened-yes stateLimit _ _ opened (c .before .before .before .before .before .before .before .t .given .1)) (c .before .before .before .before .next-states .ensures)
+    (classifyQuestions (length area)) classifyFigures classList area (e .0) (e .1)
 
 pub classify-spec : {M : Type 1} → statement M
 classify-spec =
     tie.close
     (tie.spec
-    judge-requires
+    slice-aggregate-open
+    open-requires
     enum-known-r
-    returns
-    enum-told
-    byte-at-requires
-    returns-2
-    drawn-marks-requires
+    enum-known-t
+    array-share-prefix-marks
+    slice-aggregate-classify-table
     next-states-requires
-    byte-at-requires-2
-    byte-at-requires-3
     classify-table-requires
+    returns
     same-length
-    returns-3)
+    returns-2)

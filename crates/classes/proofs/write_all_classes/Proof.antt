@@ -19,7 +19,7 @@ returns c =
     let start = c .before .before .before .before .before .before .before .before in
     let a = start .args in
     let o = c .before .before .before .before .outlook-of .ensures in
-    λ s. c .before .before .write-classes .ensures ∙ area-is (a .k) s (a .marks .now) (a .nexts .now) (o .0) (o .1) (start .pre .1) (a .area .now)
+    c .before .before .write-classes .ensures ∙ area-is (a .t .symbols) (a .t .start) (a .marks .now) (a .nexts .now) (o .0) (o .1) (start .pre .0 .marks-length) (a .area .now)
 
 pub write-all-classes-spec : {M : Type 1} → statement M
 write-all-classes-spec = tie.close (tie.spec outlook-of-requires write-classes-requires same-length returns)

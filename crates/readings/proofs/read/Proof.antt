@@ -1,7 +1,7 @@
 -- `read` meets its contract.
 use native.Mathlib.Omega.{arith}
 use borrow.Author.Needs.{needs}
-use Rattle.monitor.specs.Format.{tableOf}
+use Rattle.monitor.specs.Opening.{monitorIn}
 use Rattle.readings.proofs.Traces.{reads-mark, reads-class}
 use Rattle.readings.proofs.read.Statement.{statement}
 use Rattle.readings.proofs.read.Tie as tie
@@ -13,7 +13,7 @@ cast-result : tie.Need-cast-result
 cast-result c = omega (arith, c .shared-slice-known3 .given (c .before .before .before .before .args .q))
 
 returns : tie.Need-returns
-returns c = (let a = c .before .before .before .before .args in λ s. reads-mark (tableOf (a .n) (a .k) s (a .marks .now) (a .nexts .now)) (a .domain) (a .q) (c .before .if1 .taken))
+returns c = (let a = c .before .before .before .before .args in reads-mark (monitorIn (a .t) (a .marks) (a .nexts)) (a .domain) (a .q) (c .before .if1 .taken))
 
 class-of-requires : tie.Need-class-of-requires
 class-of-requires c κs = search needs
@@ -22,7 +22,9 @@ cast-result-2 : tie.Need-cast-result-2
 cast-result-2 c = search needs
 
 returns-2 : tie.Need-returns-2
-returns-2 c = (let a = c .before .before .before .before .args in λ s. reads-class (tableOf (a .n) (a .k) s (a .marks .now) (a .nexts .now)) (a .domain) (a .q) (c .before .if1 .left) (c .class-of .ensures s))
+returns-2 c =
+    let a = c .before .before .before .before .args in
+    reads-class (monitorIn (a .t) (a .marks) (a .nexts)) (a .domain) (a .q) (c .before .if1 .left) (c .class-of .ensures)
 
 pub read-spec : {M : Type 1} → statement M
 read-spec =

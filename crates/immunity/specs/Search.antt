@@ -1,0 +1,47 @@
+-- What the functions below the entry points are handed, and what they answer: over outputs of states, whatever the reading.
+use mathlib.Core.Path.{_≡_}
+use mathlib.Core.List.{List}
+use mathlib.Core.Option.{Option}
+use Prim.Native.Nat.{ℕ, _≤_, _<_}
+use lib.ListN.{length, getD}
+use Rattle.theory.specs.Answer.{Answer, asks}
+use Rattle.theory.specs.Automaton.{Automaton}
+use Rattle.theory.specs.Monitor.{stateLimit}
+use Rattle.theory.specs.Faults.{steps}
+use Rattle.theory.specs.Series.{Series}
+use Rattle.theory.specs.Computed.{firstHarmful}
+use Rattle.monitor.specs.Format.{automatonOf, Rows}
+use Rattle.monitor.specs.declared.Shape.{Shape}
+use Rattle.pairs.specs.Square.{never, Squared, differing}
+use Rattle.faults.specs.Steps.{Costs}
+use Rattle.totals.specs.Totals.{Relaxed}
+use Rattle.immunity.specs.Findings.{witnessFigures, roomQuestions}
+
+-- the automaton of a shape and its next states
+abbrev pub automatonIn : Shape → List ℕ → Automaton
+automatonIn t ts = automatonOf (t .states) (t .symbols) ts
+
+-- the first harmful series of a table whose states have these outputs
+abbrev pub firstOf : Shape → List ℕ → List ℕ → ℕ → Option Series
+firstOf t outs ts set = firstHarmful (automatonIn t ts) (differing outs) (steps set (t .symbols)) (t .start)
+
+-- what it answers for an area of `room` bytes
+abbrev pub answerOf : Shape → List ℕ → List ℕ → ℕ → ℕ → Answer
+answerOf t outs ts set room =
+    asks (roomQuestions (firstOf t outs ts set) room)
+    (witnessFigures (λ q. getD outs q 0) (automatonIn t ts) (t .start) (firstOf t outs ts set))
+
+-- what all fault sets of a table and a reading share: an output for each state, and the square of their distances
+pub record Posed (t : Shape) (outs square ts : List ℕ) : Type 0 where
+  pub rows : Rows stateLimit (t .states) (t .symbols) ts
+  pub outputs : length outs ≡ t .states
+  pub start-in : t .start < t .states
+  pub squared : Squared (automatonIn t ts) (differing outs) square
+
+-- with the costs and totals of one set, a witness, and room for it
+pub record Ready (t : Shape) (set : ℕ) (outs square costs totals ts : List ℕ) (room : ℕ) : Type 0 where
+  pub posed : Posed t outs square ts
+  pub costs-are : Costs (automatonIn t ts) square (steps set (t .symbols)) (t .states) costs
+  pub relaxed : Relaxed (automatonIn t ts) costs totals
+  pub some : getD totals (t .start) 0 < never
+  pub fits : getD totals (t .start) 0 ≤ room
