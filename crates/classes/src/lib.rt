@@ -121,7 +121,7 @@ fn write_classes(marks: &[u8], outlook: Outlook, area: &mut [u8])
     requires { ⌜ length (now marks) ≤ length (now area) ⌝ }
     ensures { λ _. ⌜ now (area .exit)
         ≡ values (length (now (marks .entry))) (classBy (now (marks .entry)) (outlook .truth) (outlook .falsity))
-            ++ drop (length (now (marks .entry))) (now (area .entry)) ⌝ }
+        ++ drop (length (now (marks .entry))) (now (area .entry)) ⌝ }
 {
     let mut i = 0;
     while i < marks.len() {
@@ -170,7 +170,7 @@ fn classify_table(marks: &[u8], nexts: &[u8], t: Shape, area: &mut [u8]) -> Clas
     requires { ⌜ TableIn t marks nexts ⌝ }
     ensures figures { λ r. ⌜ classification r
         ≡ asks (classifyQuestions (length (now (area .entry))) (monitorIn t (marks .entry) (nexts .entry)))
-            (classifyFigures (monitorIn t (marks .entry) (nexts .entry))) ⌝ }
+        (classifyFigures (monitorIn t (marks .entry) (nexts .entry))) ⌝ }
     ensures area { λ r. ⌜ now (area .exit)
         ≡ written (classification r) (classList (monitorIn t (marks .entry) (nexts .entry))) (now (area .entry)) ⌝ }
 {
@@ -196,7 +196,7 @@ pub fn classify(body: &[u8], area: &mut [u8]) -> Classification
         ≡ classifyAnswer stateLimit (now (body .entry)) (length (now (area .entry))) ⌝ }
     ensures area { λ _. ⌜ now (area .exit)
         ≡ written (classifyAnswer stateLimit (now (body .entry)) (length (now (area .entry))))
-            (classList (monitorOf (now (body .entry)))) (now (area .entry)) ⌝ }
+        (classList (monitorOf (now (body .entry)))) (now (area .entry)) ⌝ }
 {
     let mut marks = [0u8; STATE_LIMIT];
     match monitor::open(body, &mut marks) {

@@ -3,6 +3,5 @@ pub mod Made
 pub mod Answers
 pub mod Room
 pub mod Tables
-pub mod Column
-pub mod Entry
+pub mod Columns
 pub mod DemandThree

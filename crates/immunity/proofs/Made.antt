@@ -16,16 +16,18 @@ use Rattle.theory.specs.Series.{Series, sentTrace, receivedTrace}
 use Rattle.theory.specs.Computed.{firstHarmful}
 use Rattle.theory.proofs.Lists.{find-in, some-same}
 use Rattle.theory.proofs.Witness.{run-parts, sent-length}
-use Rattle.monitor.specs.Format.{Rows, automatonOf}
+use Rattle.monitor.specs.declared.Shape.{Shape}
 use Rattle.monitor.proofs.Rows.{next-of-rows}
-use Rattle.pairs.specs.Square.{never, entry, Squared, path}
+use Rattle.pairs.specs.Square.{never, entry, Squared, differing, path}
 use Rattle.pairs.proofs.Path.{path-length}
 use Rattle.faults.specs.declared.Symbols.{Symbols}
 use Rattle.faults.specs.declared.Fault.{Fault}
+use Rattle.faults.specs.Kinds.{bitOf}
 use Rattle.faults.specs.Steps.{stepFor, Inside, Ranged, costOf, costing, Costs}
 use Rattle.faults.proofs.AtMostTwo.{count-is}
 use Rattle.totals.specs.Totals.{Relaxed, approach}
 use Rattle.immunity.specs.Findings.{seriesFigures}
+use Rattle.immunity.specs.Search.{automatonIn, Posed, Ready}
 use Rattle.immunity.proofs.Search.{search-finds, cost-sum}
 
 pub sets-append : (l : List ℕ) (i : ℕ) (xs ys : List ℕ) → sets (sets l i xs) (i + length xs) ys ≡ sets l i (xs ++ ys)
@@ -53,14 +55,32 @@ pub record Chosen (g : Automaton) (set : ℕ) (d costs v : List ℕ) (start stat
   pub picked : find (costing g d state (getD costs state 0)) (steps set (g .symbols)) ≡ some (stepFor fault)
   pub ranged : Ranged (g .symbols) fault
 
-pub searched : (set : ℕ) {limit n k : ℕ} {ts d costs v : List ℕ} {ends : ℕ → ℕ → Bool} → Rows limit n k ts → Squared (automatonOf n k ts) ends d → Costs (automatonOf n k ts) d (steps set k) n costs → Relaxed (automatonOf n k ts) costs v
-    → Searched (automatonOf n k ts) ends set d costs v
-searched set r q c t = record { closed = next-of-rows r; squared = q; costs-are = c; relaxed = t }
+pub searched : (set : ℕ) {t : Shape} {outs d costs v ts : List ℕ} → Posed t outs d ts → Costs (automatonIn t ts) d (steps set (t .symbols)) (t .states) costs
+    → Relaxed (automatonIn t ts) costs v → Searched (automatonIn t ts) (differing outs) set d costs v
+searched set p c r = record { closed = next-of-rows (p .rows); squared = p .squared; costs-are = c; relaxed = r }
 
-pub chosen : {g : Automaton} {ends : ℕ → ℕ → Bool} {set : ℕ} {d costs v : List ℕ} → Searched g ends set d costs v → (start : ℕ) {state count : ℕ} {fault : Fault} → start < g .states → getD v start 0 < never
-    → count ≡ length (approach g v costs (getD v start 0) start) → state ≡ run g start (approach g v costs (getD v start 0) start) → state < g .states → count + getD costs state 0 ≡ getD v start 0
-    → (find (costing g d state (getD costs state 0)) (steps set (g .symbols)) ≡ some (stepFor fault)) × Ranged (g .symbols) fault → Chosen g set d costs v start state count fault
-chosen h start l low n s i e f = record { start-in = l; low = low; is-count = n; is-state = s; state-in = i; is-cost = e; picked = f .0; ranged = f .1 }
+module _ {t : Shape} {set : ℕ} {outs d costs v ts : List ℕ} {room : ℕ} (r : Ready t set outs d costs v ts room) where
+  pub search-ready : Searched (automatonIn t ts) (differing outs) set d costs v
+  search-ready = searched set (r .posed) (r .costs-are) (r .relaxed)
+
+  abbrev before : List ℕ
+  before = approach (automatonIn t ts) v costs (getD v (t .start) 0) (t .start)
+
+  -- by what `write_before` and `fault_with` answer
+  pub chosen : {state count : ℕ} {fault : Fault}
+      → (count ≡ length before) × ((state ≡ run (automatonIn t ts) (t .start) before) × (state < t .states)) × (count + getD costs state 0 ≡ getD v (t .start) 0)
+      → (find (costing (automatonIn t ts) d state (getD costs state 0)) (steps set (t .symbols)) ≡ some (stepFor fault)) × Ranged (t .symbols) fault
+      → Chosen (automatonIn t ts) set d costs v (t .start) state count fault
+  chosen w f = record {
+    start-in = r .posed .start-in;
+    low = r .some;
+    is-count = w .0;
+    is-state = w .1 .0;
+    state-in = w .1 .1;
+    is-cost = w .2;
+    picked = f .0;
+    ranged = f .1;
+  }
 
 module _ {g : Automaton} {ends : ℕ → ℕ → Bool} {set : ℕ} {d costs v : List ℕ} {start state count : ℕ} {fault : Fault} (h : Searched g ends set d costs v) (k : Chosen g set d costs v start state count fault) where
   abbrev way : List ℕ
@@ -133,7 +153,7 @@ module _ {g : Automaton} {ends : ℕ → ℕ → Bool} {set : ℕ} {d costs v : 
   pub made-figures : {s : Series} (outs : List ℕ) {x y p q : ℕ} → firstHarmful g ends (steps set (g .symbols)) start ≡ some s
       → p ≡ run g state (step .sent) → q ≡ run g state (step .received)
       → x ≡ run g p (path g d (entry d p q) p q) → y ≡ run g q (path g d (entry d p q) p q)
-      → _≡_ {A = List ℕ} (getD v start 0 ∷ count ∷ fault .bit ∷ fault .replacement ∷ getD outs x 0 ∷ getD outs y 0 ∷ []) (seriesFigures (λ r. getD outs r 0) g start s)
+      → _≡_ {A = List ℕ} (getD v start 0 ∷ count ∷ bitOf (fault .kind) ∷ fault .replacement ∷ getD outs x 0 ∷ getD outs y 0 ∷ []) (seriesFigures (λ r. getD outs r 0) g start s)
   made-figures {s} outs e ep eq ex ey =
       rw (distance, k .is-count, ex, ey, ep, eq, sent, received) (ap (seriesFigures (λ r. getD outs r 0) g start) (made-is e))
     where

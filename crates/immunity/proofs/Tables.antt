@@ -1,32 +1,40 @@
 -- From the outputs that the search goes by to the readings of the table.
-use mathlib.Core.Path.{_≡_, refl, ap, _∙_}
+use mathlib.Core.Path.{_≡_, refl, sym, ap, _∙_}
 use mathlib.Core.List.{List, _++_}
 use mathlib.Core.Option.{Option, none, some}
-use Prim.Native.Nat.{ℕ, _-_, _≤_, _<_}
+use Prim.Native.Nat.{ℕ, _^_, _≤_, _<_}
 use native.Mathlib.Omega.{arith}
 use lib.Bits.{bitOr}
-use lib.ListN.{getD, take}
-use lib.Seq.{getD-take}
+use lib.ListN.{length, getD, take}
+use lib.Seq.{getD-take, take-at}
 use Rattle.theory.specs.Below.{values}
 use Rattle.theory.specs.Automaton.{run}
-use Rattle.theory.specs.Monitor.{Monitor, reading, monitorability}
+use Rattle.theory.specs.Monitor.{Monitor, reading}
 use Rattle.theory.specs.Faults.{steps}
 use Rattle.theory.specs.Answer.{Answer, answered, asks, written}
 use Rattle.theory.specs.Series.{Series, sentTrace, receivedTrace}
 use Rattle.theory.specs.Distance.{differ, faultsOf}
 use Rattle.theory.specs.Computed.{horizon, firstHarmful, firstWitness}
-use Rattle.theory.proofs.Values.{getD-filled}
+use Rattle.theory.proofs.Values.{length-values, getD-filled}
 use Rattle.theory.proofs.Reach.{run-in}
 use Rattle.theory.proofs.Faults.{steps-good, steps-rise}
 use Rattle.theory.proofs.Witness.{harmful-same, first-harms, sent-trace, received-trace}
 use Rattle.monitor.specs.Format.{Table, automatonOf, tableOf}
+use Rattle.monitor.specs.declared.Shape.{Shape}
 use Rattle.pairs.specs.Square.{differing}
-use Rattle.immunity.specs.Findings.{witnessFigures, witnessTrace, roomQuestions, tableFigures, answerOf, shown, cardFigures}
+use Rattle.immunity.specs.Findings.{witnessFigures, witnessTrace, roomQuestions, tableFigures, columnFigures}
+use Rattle.immunity.specs.Search.{answerOf}
 use Rattle.immunity.proofs.Room.{room-enough}
 
 -- the first n of a list that was filled with values
-pub filled-read : (n : ℕ) (f : ℕ → ℕ) (rest : List ℕ) {l : List ℕ} → l ≡ values n f ++ rest → (q : ℕ) → q < n → getD (take (n - 0) l) q 0 ≡ f q
-filled-read n f rest {l} e q h = getD-take (n - 0) l q 0 (omega arith) ∙ ap (λ (xs : List ℕ). getD xs q 0) e ∙ getD-filled f rest n q h
+pub filled-read : (n : ℕ) (f : ℕ → ℕ) (rest : List ℕ) {l : List ℕ} → l ≡ values n f ++ rest → (q : ℕ) → q < n → getD (take n l) q 0 ≡ f q
+filled-read n f rest {l} e q h = getD-take n l q 0 h ∙ ap (λ (xs : List ℕ). getD xs q 0) e ∙ getD-filled f rest n q h
+
+pub filled-count : (n : ℕ) (f : ℕ → ℕ) (rest : List ℕ) {l : List ℕ} → l ≡ values n f ++ rest → n ≡ length (take n l)
+filled-count n f rest e = sym (ap (λ (xs : List ℕ). length (take n xs)) e ∙ ap length (take-at (values n f) rest n (length-values n f)) ∙ length-values n f)
+
+abbrev shape : ℕ → ℕ → ℕ → Shape
+shape n k start = record { states = n; symbols = k; start = start }
 
 -- outs holds what every state reads
 module _ {limit n k start : ℕ} {vs ts : List ℕ} (t : Table limit n k start vs ts) (d set : ℕ) (outs : List ℕ)
@@ -74,13 +82,10 @@ module _ {limit n k start : ℕ} {vs ts : List ℕ} (t : Table limit n k start v
   table = tableOf n k start vs ts
 
   -- the finding for one fault set by marks, from an area that every witness fits
-  pub marks-answer : (set room : ℕ) → horizon limit ≤ room → {r : Answer} → r ≡ answerOf n k vs ts set start room → r ≡ answered (tableFigures table 3 set)
+  pub marks-answer : (set room : ℕ) → horizon limit ≤ room → {r : Answer} → r ≡ answerOf (shape n k start) vs ts set room → r ≡ answered (tableFigures table 3 set)
   marks-answer set room large e = table-answer t 3 set vs marks-read room e ∙ room-enough limit table (t .well-formed) 3 set room large (tableFigures table 3 set)
 
-  -- a set built by adding one kind to the empty set
-  pub alone : (kind : ℕ) {e w : ℕ} {r : Answer} → e ≡ 0 → w ≡ bitOr e kind → r ≡ answered (tableFigures table 3 w) → r ≡ answered (tableFigures table 3 kind)
-  alone kind ee ew er = er ∙ rw (ew, ee)
-
-  pub card-is : {y : ℕ} {a b c d : Answer} → y ≡ monitorability table → a ≡ answered (tableFigures table 3 1) → b ≡ answered (tableFigures table 3 2) → c ≡ answered (tableFigures table 3 4) → d ≡ answered (tableFigures table 3 8)
-      → shown n y a b c d ≡ cardFigures table
-  card-is ey ea eb ec ed = rw (ey, ea, eb, ec, ed)
+-- a set built by adding one kind to the empty set
+pub alone : (m : Monitor) (rank : ℕ) {none one kind : ℕ} {r : Answer} → kind ≡ rank → none ≡ 0 → one ≡ bitOr none (2 ^ kind) → r ≡ answered (tableFigures m 3 one)
+    → r ≡ answered (columnFigures rank m)
+alone m rank ek e₀ e₁ er = er ∙ rw (e₁, e₀, ek)

@@ -90,12 +90,16 @@ pub record CardAnswer : Type 0 where
   pub summary : Answer
   pub columns : List Answer
 
+-- a summary and columns with these values, after these questions
+abbrev pub cardAsking : List Question → Monitor → CardAnswer
+cardAsking questions m = record {
+  summary = asks questions (summaryFigures m);
+  columns = each kinds (λ c. asks questions (columnFigures c m) ∷ []);
+}
+
 -- a card asks 1 to 8, for its summary and for each of its columns
 unfoldable pub cardAnswer : ℕ → List ℕ → CardAnswer
-cardAnswer limit b = record {
-  summary = asks (tableQuestions limit b) (summaryFigures (monitorOf b));
-  columns = each kinds (λ c. asks (tableQuestions limit b) (columnFigures c (monitorOf b)) ∷ []);
-}
+cardAnswer limit b = cardAsking (tableQuestions limit b) (monitorOf b)
 
 -- 01's number and place of a refusal, or the values of a summary
 abbrev pub summarised : Summary → Answer

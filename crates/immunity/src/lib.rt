@@ -9,17 +9,20 @@ use pairs::NEVER;
 use theory::SQUARE_SIZE;
 use theory::STATE_LIMIT;
 ghost use mathlib.Core.Path.{_≡_};
+ghost use mathlib.Core.List.{[]};
 ghost use mathlib.Core.Option.{some};
-ghost use lib.ListN.{length, getD};
+ghost use lib.ListN.{length, getD, replicate};
 ghost use lib.Seq.{sets};
 ghost use Rattle.theory.specs.Answer.{answered, asks, written};
 ghost use Rattle.theory.specs.Monitor.{stateLimit};
+ghost use Rattle.theory.specs.Faults.{kinds};
 ghost use Rattle.theory.specs.Series.{Series, sentTrace};
 ghost use Rattle.theory.specs.Computed.{horizon, firstWitness};
+ghost use Rattle.basics.specs.Refusals.{refusal};
 ghost use Rattle.monitor.specs.Opening.{monitorIn, TableIn};
 ghost use Rattle.pairs.specs.Square.{Squared, differing};
 ghost use Rattle.immunity.specs.Findings.{seriesFigures, witnessTrace, roomQuestions, faultQuestions, tableFigures};
-ghost use Rattle.immunity.specs.Findings.{faultAnswer, faultTrace, witnessValues, finding, cardAnswer, cardOf, carded};
+ghost use Rattle.immunity.specs.Findings.{faultAnswer, faultTrace, witnessValues, finding, cardAsking, cardAnswer, found, carded};
 ghost use Rattle.immunity.specs.Search.{firstOf, answerOf, Posed, Ready, automatonIn};
 
 // A witness whose sent trace stands in the area: its length, the symbols before the fault, the fault's kind, the
@@ -117,7 +120,7 @@ fn examine_set(
         ≡ answerOf t (now (outputs .entry)) (now (nexts .entry)) (set .bits) (length (now (area .entry))) ⌝ }
     ensures area { λ r. ⌜ now (area .exit)
         ≡ written (finding r) (witnessTrace (firstOf t (now (outputs .entry)) (now (nexts .entry)) (set .bits)))
-            (now (area .entry)) ⌝ }
+        (now (area .entry)) ⌝ }
 {
     let start = t.start;
     let costs = faults::costs(square, nexts, t.states, t.symbols, set);
@@ -133,16 +136,7 @@ fn examine_set(
             place: 0,
         });
     }
-    Finding::Vulnerable(witness_of(
-        outputs,
-        square,
-        &costs,
-        &totals,
-        nexts,
-        t,
-        set,
-        area,
-    ))
+    Finding::Vulnerable(witness_of(outputs, square, &costs, &totals, nexts, t, set, area))
 }
 
 // The finding for a table under a reading.
@@ -157,7 +151,7 @@ fn examine_reading(
     requires { ⌜ TableIn t marks nexts ⌝ }
     ensures figures { λ r. let m = monitorIn t (marks .entry) (nexts .entry) in ⌜ finding r
         ≡ asks (roomQuestions (firstWitness m domain (set .bits)) (length (now (area .entry))))
-            (tableFigures m domain (set .bits)) ⌝ }
+        (tableFigures m domain (set .bits)) ⌝ }
     ensures area { λ r. let m = monitorIn t (marks .entry) (nexts .entry) in ⌜ now (area .exit)
         ≡ written (finding r) (witnessTrace (firstWitness m domain (set .bits))) (now (area .entry)) ⌝ }
 {
@@ -181,7 +175,7 @@ fn examine_table(
     requires { ⌜ TableIn t marks nexts ⌝ }
     ensures figures { λ r. let m = monitorIn t (marks .entry) (nexts .entry) in ⌜ finding r
         ≡ asks (faultQuestions set domain (firstWitness m domain set) (length (now (area .entry))))
-            (tableFigures m domain set) ⌝ }
+        (tableFigures m domain set) ⌝ }
     ensures area { λ r. let m = monitorIn t (marks .entry) (nexts .entry) in ⌜ now (area .exit)
         ≡ written (finding r) (witnessTrace (firstWitness m domain set)) (now (area .entry)) ⌝ }
 {
@@ -207,7 +201,7 @@ pub fn examine(body: &[u8], set: usize, domain: usize, area: &mut [u8]) -> Findi
         ≡ faultAnswer stateLimit (now (body .entry)) set domain (length (now (area .entry))) ⌝ }
     ensures area { λ _. ⌜ now (area .exit)
         ≡ written (faultAnswer stateLimit (now (body .entry)) set domain (length (now (area .entry))))
-            (faultTrace (now (body .entry)) set domain) (now (area .entry)) ⌝ }
+        (faultTrace (now (body .entry)) set domain) (now (area .entry)) ⌝ }
 {
     let mut marks = [0u8; STATE_LIMIT];
     match monitor::open(body, &mut marks) {
@@ -258,7 +252,7 @@ fn finding_in(
 // The columns of a table: each fault alone, in the written order. The square is made once for all of them.
 fn columns_of(marks: &[u8], nexts: &[u8], t: Shape) -> [Column; KINDS]
     requires { ⌜ TableIn t marks nexts ⌝ }
-    ensures { λ r. ⌜ found r ≡ columnsOf (monitorIn t (marks .entry) (nexts .entry)) ⌝ }
+    ensures { λ r. ⌜ found r ≡ cardAsking [] (monitorIn t (marks .entry) (nexts .entry)) .columns ⌝ }
 {
     let square = pairs::distances(nexts, t.states, t.symbols, marks);
     let mut area = scratch();
@@ -278,7 +272,7 @@ fn columns_of(marks: &[u8], nexts: &[u8], t: Shape) -> [Column; KINDS]
 // The card of an opened table.
 fn card_of(marks: &[u8], nexts: &[u8], t: Shape) -> LinkCard
     requires { ⌜ TableIn t marks nexts ⌝ }
-    ensures { λ r. ⌜ carded r ≡ cardOf (monitorIn t (marks .entry) (nexts .entry)) ⌝ }
+    ensures { λ r. ⌜ carded r ≡ cardAsking [] (monitorIn t (marks .entry) (nexts .entry)) ⌝ }
 {
     let summary = Summary::Table {
         states: t.states,
@@ -290,7 +284,7 @@ fn card_of(marks: &[u8], nexts: &[u8], t: Shape) -> LinkCard
 
 // The card of a refused table.
 fn refused_card(r: Refusal) -> LinkCard
-    ensures { λ c. ⌜ carded c ≡ refusedCard r ⌝ }
+    ensures { λ c. ⌜ carded c ≡ record { summary = refusal r; columns = replicate kinds (refusal r) } ⌝ }
 {
     let summary = Summary::Refused(r);
     let columns = [Column {

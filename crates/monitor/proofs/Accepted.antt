@@ -80,7 +80,7 @@ module _ (limit : ℕ) (b : List ℕ) {r : Judgement} (e : judgement r ≡ judge
     opened-table {n} {space = space} rest en ek es copied =
         let front = take (length vs) vs in
         let marks-are : take n space ≡ marks b =
-          ap (take n) copied ∙ take-at front rest n (ap length (take-length vs) ∙ marks-sized ∙ sym en) ∙ take-length vs ∙ ev in
+        ap (take n) copied ∙ take-at front rest n (ap length (take-length vs) ∙ marks-sized ∙ sym en) ∙ take-length vs ∙ ev in
         record {
           accepted = accepted;
           table = rw (marks-are, en, ek, es) (accepted-table limit b accepted);
@@ -119,10 +119,10 @@ module _ {limit : ℕ} {b : List ℕ} {t : Shape} {space : List ℕ} (h : Accept
     pub table-handed : Table limit (t .states) (t .symbols) (t .start) (take (t .states) space) ts
     table-handed = rw et (h .table)
 
-    abbrev handed : Monitor
+    abbrev pub handed : Monitor
     handed = tableOf (t .states) (t .symbols) (t .start) (take (t .states) space) ts
 
-    monitor-handed : handed ≡ monitorOf b
+    pub monitor-handed : handed ≡ monitorOf b
     monitor-handed = rw et (h .monitor)
 
     -- a call by its questions and its values

@@ -58,7 +58,7 @@ pub fn write_readings(marks: &[u8], nexts: &[u8], t: Shape, domain: usize, area:
         × (t .states ≤ length (now area)) ⌝ }
     ensures { λ _. ⌜ now (area .exit)
         ≡ values (t .states) (reading (monitorIn t (marks .entry) (nexts .entry)) domain)
-            ++ drop (t .states) (now (area .entry)) ⌝ }
+        ++ drop (t .states) (now (area .entry)) ⌝ }
 {
     if domain == 3 {
         bytes::copy(marks, area);
@@ -96,7 +96,7 @@ fn step_table(
     requires { ⌜ TableIn t marks nexts ⌝ }
     ensures { λ r. ⌜ stepped r
         ≡ asks (stepQuestions domain state symbol (monitorIn t (marks .entry) (nexts .entry)))
-            (stepFigures domain state symbol (monitorIn t (marks .entry) (nexts .entry))) ⌝ }
+        (stepFigures domain state symbol (monitorIn t (marks .entry) (nexts .entry))) ⌝ }
 {
     if !is_reading(domain) {
         return Stepped::Refused(Refusal {
@@ -149,7 +149,7 @@ fn trace_table(marks: &[u8], nexts: &[u8], t: Shape, domain: usize, symbols: &[u
     requires { ⌜ TableIn t marks nexts ⌝ }
     ensures { λ r. ⌜ traced r
         ≡ asks (traceQuestions domain (now (symbols .entry)) (monitorIn t (marks .entry) (nexts .entry)))
-            (traceFigures domain (now (symbols .entry)) (monitorIn t (marks .entry) (nexts .entry))) ⌝ }
+        (traceFigures domain (now (symbols .entry)) (monitorIn t (marks .entry) (nexts .entry))) ⌝ }
 {
     if !is_reading(domain) {
         return Traced::Refused(Refusal {

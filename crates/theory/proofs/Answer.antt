@@ -1,7 +1,7 @@
 -- Asking two lists of questions one after the other, and what an answer does to the area lent.
-use mathlib.Core.Path.{_≡_, refl, ap}
+use mathlib.Core.Path.{_≡_, refl, sym, ap, _∙_}
 use mathlib.Core.Bool.{Bool, true, false, cond}
-use mathlib.Core.List.{List, [], _∷_, _++_}
+use mathlib.Core.List.{List, [], _∷_, _++_, append-nil}
 use Prim.Native.Nat.{ℕ}
 use lib.ListN.{length, drop}
 use native.Mathlib.Omega.{arith}
@@ -48,6 +48,20 @@ asks-values (q ∷ qs) values {given} e = go (q .yes) e (asks-values qs values)
     go : (b : Bool) → cond b (asks qs values) (refused (q .number) (q .place)) ≡ answered given → (asks qs values ≡ answered given → values ≡ given) → values ≡ given
     go true h rest = rest h
     go false h rest = absurd (never h)
+
+-- whether a list of questions has a no does not hang on the values
+pub asks-other : (qs : List Question) (values other : List ℕ) {given : List ℕ} → asks qs values ≡ answered given → asks qs other ≡ answered other
+asks-other [] values other e = refl
+asks-other (q ∷ qs) values other {given} e = go (q .yes) e (asks-other qs values other)
+  where
+    go : (b : Bool) → cond b (asks qs values) (refused (q .number) (q .place)) ≡ answered given
+        → (asks qs values ≡ answered given → asks qs other ≡ answered other)
+        → cond b (asks qs other) (refused (q .number) (q .place)) ≡ answered other
+    go true h rest = rest h
+    go false h rest = absurd (never h)
+
+pub asks-refuses : (qs : List Question) (values other : List ℕ) {number place : ℕ} → asks qs values ≡ refused number place → asks qs other ≡ refused number place
+asks-refuses qs values other e = ap (λ (l : List Question). asks l other) (sym (append-nil qs)) ∙ asks-refused qs [] other values e
 
 -- every question of a list without a no was answered yes
 pub asks-yes : (q : Question) (qs : List Question) (given : List ℕ) → asks (q ∷ qs) given ≡ answered given → (q .yes ≡ true) × (asks qs given ≡ answered given)

@@ -1,62 +1,73 @@
 -- `card` meets its contract.
+use mathlib.Core.Path.{ap, _∙_}
+use mathlib.Core.List.{[]}
 use borrow.Author.Needs.{needs}
 use Rattle.theory.specs.Monitor.{stateLimit}
-use Rattle.monitor.proofs.Accepted.{judged-accepted, table-lent, monitor-lent}
-use Rattle.immunity.proofs.Entry.{card-judged, card-shown}
+use Rattle.theory.proofs.Answer.{asks-other, asks-refuses}
+use Rattle.monitor.specs.Format.{monitorOf}
+use Rattle.monitor.specs.Questions.{tableQuestions, judgeAnswer}
+use Rattle.monitor.proofs.Accepted.{opened-no, opened-yes, marks-counted, marks-lie, table-handed, monitor-handed}
+use Rattle.immunity.specs.Findings.{cardAsking, cardAnswer}
+use Rattle.immunity.proofs.Columns.{card-asks, card-refuses}
 use Rattle.immunity.proofs.card.Statement.{statement}
 use Rattle.immunity.proofs.card.Tie as tie
 
-judge-requires : tie.Need-judge-requires
-judge-requires c κs = search needs
+slice-aggregate-open : tie.Need-slice-aggregate-open
+slice-aggregate-open c = search needs
+
+open-requires : tie.Need-open-requires
+open-requires c κs = search needs
 
 enum-known-r : tie.Need-enum-known-r
 enum-known-r c = search needs
 
-returns : tie.Need-returns
-returns c = card-judged stateLimit (c .before .before .before .before .before .args .body .now) (c .before .before .before .judge .ensures) (c .before .r .given .1)
+refused-card-requires : tie.Need-refused-card-requires
+refused-card-requires c κs = search needs
 
-enum-told : tie.Need-enum-told
-enum-told c = search needs
+enum-known-t : tie.Need-enum-known-t
+enum-known-t c = search needs
 
-drawn-marks-requires : tie.Need-drawn-marks-requires
-drawn-marks-requires c κs = search needs
+array-share-prefix-marks : tie.Need-array-share-prefix-marks
+array-share-prefix-marks c = marks-lie (opened-yes stateLimit _ _ (c .before .before .before .before .«open» .ensures) (c .before .t .given .1))
+
+slice-aggregate-card-of : tie.Need-slice-aggregate-card-of
+slice-aggregate-card-of c = marks-counted (opened-yes stateLimit _ _ (c .before .before .before .before .before .«open» .ensures) (c .before .before .t .given .1))
 
 next-states-requires : tie.Need-next-states-requires
 next-states-requires c κs = search needs
 
-byte-at-requires : tie.Need-byte-at-requires
-byte-at-requires c κs = search needs
-
-byte-at-requires-2 : tie.Need-byte-at-requires-2
-byte-at-requires-2 c κs = search needs
-
-byte-at-requires-3 : tie.Need-byte-at-requires-3
-byte-at-requires-3 c κs = search needs
-
 card-of-requires : tie.Need-card-of-requires
 card-of-requires c κs =
-    let b = c .before .before .before .before .before .before .before .before .before .args .body .now in
-    table-lent b (c .before .before .byte-at .ensures .0) (c .before .byte-at2 .ensures .0) (c .byte-at3 .ensures .0) (c .before .before .before .before .drawn-marks .ensures) (c .before .before .before .next-states .ensures) stateLimit
-    (judged-accepted stateLimit b (c .before .before .before .before .before .before .before .judge .ensures) (c .before .before .before .before .before .enum-told .given .1))
+    table-handed (opened-yes stateLimit _ _ (c .before .before .before .before .before .before .«open» .ensures) (c .before .before .before .t .given .1)) (c .next-states .ensures)
+
+returns : tie.Need-returns
+unfolding cardAnswer judgeAnswer
+returns c =
+    let b = c .before .before .before .before .before .before .before .before .args .body .now in
+    let e = opened-no stateLimit b _ (c .before .before .before .before .before .«open» .ensures) (c .before .before .r .given .1) in
+    c .refused-card .ensures ∙ card-refuses (tableQuestions stateLimit b) (monitorOf b) _ (λ values. asks-refuses (tableQuestions stateLimit b) [] values e)
 
 returns-2 : tie.Need-returns-2
+unfolding cardAnswer judgeAnswer
 returns-2 c =
     let b = c .before .before .before .before .before .before .before .before .before .before .args .body .now in
-    card-shown stateLimit b (judged-accepted stateLimit b (c .before .before .before .before .before .before .before .before .judge .ensures) (c .before .before .before .before .before .before .enum-told .given .1)) _
-    (monitor-lent b (c .before .before .before .byte-at .ensures .0) (c .before .before .byte-at2 .ensures .0) (c .before .byte-at3 .ensures .0) (c .before .before .before .before .before .drawn-marks .ensures) (c .before .before .before .before .next-states .ensures)) (c .card-of .ensures)
+    let h = opened-yes stateLimit _ _ (c .before .before .before .before .before .before .before .«open» .ensures) (c .before .before .before .before .t .given .1) in
+    let e = h .accepted in
+    c .card-of .ensures ∙ ap (cardAsking []) (monitor-handed h (c .before .next-states .ensures))
+    ∙ card-asks (tableQuestions stateLimit b) (monitorOf b) (λ values. asks-other (tableQuestions stateLimit b) [] values e)
 
 pub card-spec : {M : Type 1} → statement M
 card-spec =
     tie.close
     (tie.spec
-    judge-requires
+    slice-aggregate-open
+    open-requires
     enum-known-r
-    returns
-    enum-told
-    drawn-marks-requires
+    refused-card-requires
+    enum-known-t
+    array-share-prefix-marks
+    slice-aggregate-card-of
     next-states-requires
-    byte-at-requires
-    byte-at-requires-2
-    byte-at-requires-3
     card-of-requires
+    returns
     returns-2)

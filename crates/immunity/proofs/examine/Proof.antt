@@ -1,88 +1,74 @@
 -- `examine` meets its contract.
-use native.Mathlib.Omega.{arith}
+use lib.ListN.{length}
 use borrow.Author.Needs.{needs}
-use borrow.Author.Tests.{not-true, not-false}
 use Rattle.theory.specs.Monitor.{stateLimit}
-use Rattle.monitor.proofs.Accepted.{judged-accepted, table-lent, monitor-lent}
-use Rattle.immunity.proofs.Entry.{examine-judged, examine-no-set, examine-no-reading, examine-found}
+use Rattle.theory.specs.Computed.{firstWitness}
+use Rattle.monitor.specs.Format.{monitorOf}
+use Rattle.monitor.proofs.Accepted.{opened-no, opened-yes, marks-counted, marks-lie, table-handed, opened-writes, refused-writes}
+use Rattle.immunity.specs.Findings.{witnessTrace, faultQuestions, tableFigures, faultAnswer, faultTrace}
 use Rattle.immunity.proofs.examine.Statement.{statement}
 use Rattle.immunity.proofs.examine.Tie as tie
 
-judge-requires : tie.Need-judge-requires
-judge-requires c κs = search needs
+slice-aggregate-open : tie.Need-slice-aggregate-open
+slice-aggregate-open c = search needs
+
+open-requires : tie.Need-open-requires
+open-requires c κs = search needs
 
 enum-known-r : tie.Need-enum-known-r
 enum-known-r c = search needs
 
-returns : tie.Need-returns
-returns c = (let s = c .before .before .before .before .before .before in examine-judged stateLimit (s .args .body .now) (s .args .set) (s .args .domain) (s .args .area .now) (c .before .before .before .judge .ensures) (c .before .r .given .1))
+enum-known-t : tie.Need-enum-known-t
+enum-known-t c = search needs
 
-enum-told : tie.Need-enum-told
-enum-told c = search needs
+array-share-prefix-marks : tie.Need-array-share-prefix-marks
+array-share-prefix-marks c = marks-lie (opened-yes stateLimit _ _ (c .before .before .before .before .«open» .ensures) (c .before .t .given .1))
 
-returns-2 : tie.Need-returns-2
-returns-2 c =
-    let s = c .before .before .before .before .before .before in
-    let b = s .args .body .now in
-    examine-no-set stateLimit b (s .args .set) (s .args .domain) (s .args .area .now) (judged-accepted stateLimit b (c .before .before .before .judge .ensures) (c .before .enum-told .given .1)) (omega (arith, c .if1 .taken))
-
-is-reading-requires : tie.Need-is-reading-requires
-is-reading-requires c κs = search needs
-
-returns-3 : tie.Need-returns-3
-returns-3 c =
-    let s = c .before .before .before .before .before .before .before .before in
-    let b = s .args .body .now in
-    examine-no-reading stateLimit b (s .args .set) (s .args .domain) (s .args .area .now) (judged-accepted stateLimit b (c .before .before .before .before .before .judge .ensures) (c .before .before .before .enum-told .given .1)) (omega (arith, c .before .before .if1 .left)) (c .before .is-reading .ensures) (not-true _ (c .if2 .taken))
-
-drawn-marks-requires : tie.Need-drawn-marks-requires
-drawn-marks-requires c κs = search needs
+slice-aggregate-examine-table : tie.Need-slice-aggregate-examine-table
+slice-aggregate-examine-table c = marks-counted (opened-yes stateLimit _ _ (c .before .before .before .before .before .«open» .ensures) (c .before .before .t .given .1))
 
 next-states-requires : tie.Need-next-states-requires
 next-states-requires c κs = search needs
 
-byte-at-requires : tie.Need-byte-at-requires
-byte-at-requires c κs = search needs
-
-byte-at-requires-2 : tie.Need-byte-at-requires-2
-byte-at-requires-2 c κs = search needs
-
-byte-at-requires-3 : tie.Need-byte-at-requires-3
-byte-at-requires-3 c κs = search needs
-
 examine-table-requires : tie.Need-examine-table-requires
 examine-table-requires c κs =
-    let b = c .before .before .before .before .before .before .before .before .before .before .before .before .before .before .args .body .now in
-    table-lent b (c .before .before .before .byte-at .ensures .0) (c .before .before .byte-at2 .ensures .0) (c .before .byte-at3 .ensures .0) (c .before .before .before .before .before .drawn-marks .ensures) (c .before .before .before .before .next-states .ensures) stateLimit
-    (judged-accepted stateLimit b (c .before .before .before .before .before .before .before .before .before .before .before .judge .ensures) (c .before .before .before .before .before .before .before .before .before .enum-told .given .1))
+    table-handed (opened-yes stateLimit _ _ (c .before .before .before .before .before .before .before .«open» .ensures) (c .before .before .before .before .t .given .1)) (c .before .next-states .ensures)
+
+returns : tie.Need-returns
+unfolding faultAnswer
+returns c =
+    let a = c .before .before .before .before .before .before .before .before .args in
+    let m = monitorOf (a .body .now) in
+    let area = a .area .now in
+    refused-writes stateLimit (a .body .now) (faultQuestions (a .set) (a .domain) (firstWitness m (a .domain) (a .set)) (length area)) (tableFigures m (a .domain) (a .set))
+    (faultTrace (a .body .now) (a .set) (a .domain)) area
+    (opened-no stateLimit (a .body .now) _ (c .before .before .before .before .«open» .ensures) (c .before .r .given .1))
 
 same-length : tie.Need-same-length
 same-length c = search needs
 
-returns-4 : tie.Need-returns-4
-returns-4 c =
-    let s = c .before .before .before .before .before .before .before .before .before .before .before .before .before .before .before .before .before in
-    let b = s .args .body .now in
-    let t = c .before .before .examine-table .ensures in
-    examine-found stateLimit b (s .args .set) (s .args .domain) (s .args .area .now) (judged-accepted stateLimit b (c .before .before .before .before .before .before .before .before .before .before .before .before .before .before .judge .ensures) (c .before .before .before .before .before .before .before .before .before .before .before .before .enum-told .given .1)) (omega (arith, c .before .before .before .before .before .before .before .before .before .before .before .if1 .left)) (c .before .before .before .before .before .before .before .before .before .before .is-reading .ensures) _ (not-false _ (c .before .before .before .before .before .before .before .before .before .if2 .left))
-    (monitor-lent b (c .before .before .before .before .before .before .byte-at .ensures .0) (c .before .before .before .before .before .byte-at2 .ensures .0) (c .before .before .before .before .byte-at3 .ensures .0) (c .before .before .before .before .before .before .before .before .drawn-marks .ensures) (c .before .before .before .before .before .before .before .next-states .ensures)) (t .0) (t .1)
+returns-2 : tie.Need-returns-2
+unfolding faultAnswer
+returns-2 c =
+    let a = c .before .before .before .before .before .before .before .before .before .before .before .before .before .before .args in
+    let area = a .area .now in
+    let h = opened-yes stateLimit _ _ (c .before .before .before .before .before .before .before .before .before .before .«open» .ensures) (c .before .before .before .before .before .before .before .t .given .1) in
+    let e = c .before .before .examine-table .ensures in
+    opened-writes h (c .before .before .before .before .next-states .ensures) (λ m. faultQuestions (a .set) (a .domain) (firstWitness m (a .domain) (a .set)) (length area))
+    (λ m. tableFigures m (a .domain) (a .set)) (λ m. witnessTrace (firstWitness m (a .domain) (a .set))) area (e .0) (e .1)
 
 pub examine-spec : {M : Type 1} → statement M
 examine-spec =
     tie.close
     (tie.spec
-    judge-requires
+    slice-aggregate-open
+    open-requires
     enum-known-r
-    returns
-    enum-told
-    returns-2
-    is-reading-requires
-    returns-3
-    drawn-marks-requires
+    enum-known-t
+    array-share-prefix-marks
+    slice-aggregate-examine-table
     next-states-requires
-    byte-at-requires
-    byte-at-requires-2
-    byte-at-requires-3
     examine-table-requires
+    returns
     same-length
-    returns-4)
+    returns-2)

@@ -1,4 +1,4 @@
--- `examine_set` meets its contract.
+-- `examine_set` meets its contract: each return has its law in Answers.
 use mathlib.Core.Path.{refl}
 use native.Mathlib.Omega.{arith}
 use lib.ListN.{length, getD}
@@ -13,7 +13,9 @@ costs-requires : tie.Need-costs-requires
 costs-requires c κs = search needs
 
 relax-requires : tie.Need-relax-requires
-relax-requires c κs = (let r = c .before .costs .ensures in (c .before .before .before .before .before .pre .0, record { size = r .size; most = λ p l. r .each p l .most }))
+relax-requires c κs =
+    let r = c .before .costs .ensures in
+    (c .before .before .before .before .before .pre .rows, record { size = r .size; most = λ p l. r .each p l .most })
 
 mul-distance : tie.Need-mul-distance
 mul-distance c = search needs
@@ -24,22 +26,32 @@ array-read-distance c = search needs
 returns : tie.Need-returns
 returns c =
     let s = c .before .before .before .before .before .before .before in
-    let h = searched (s .args .set) (s .pre .0) (s .pre .3) (c .before .before .before .costs .ensures) (c .before .relax .ensures) in (
-      says-immune h (s .pre .2) (λ q. getD (s .args .outputs .now) q 0) (length (s .args .area .now)) (s .pre .0 .states-most) (omega (arith, c .if1 .taken)),
-      immune-keeps h (s .pre .2) (s .args .area .now) (s .pre .0 .states-most) (omega (arith, c .if1 .taken)),
+    let p = s .pre in
+    let h = searched (s .args .set .bits) p (c .before .before .before .costs .ensures) (c .before .relax .ensures) in (
+      says-immune h (p .start-in) (λ q. getD (s .args .outputs .now) q 0) (length (s .args .area .now)) (p .rows .states-most) (omega (arith, c .if1 .taken)),
+      immune-keeps h (p .start-in) (s .args .area .now) (p .rows .states-most) (omega (arith, c .if1 .taken)),
     )
 
 returns-2 : tie.Need-returns-2
 returns-2 c =
     let s = c .before .before .before .before .before .before .before .before in
-    let h = searched (s .args .set) (s .pre .0) (s .pre .3) (c .before .before .before .before .costs .ensures) (c .before .before .relax .ensures) in
-    (says-no-room h (s .pre .2) (λ q. getD (s .args .outputs .now) q 0) (length (s .args .area .now)) (is-number h (s .pre .2) (c .before .if1 .left)) (c .if2 .taken), refl)
+    let p = s .pre in
+    let h = searched (s .args .set .bits) p (c .before .before .before .before .costs .ensures) (c .before .before .relax .ensures) in
+    let low = is-number h (p .start-in) (c .before .if1 .left) in
+    (says-no-room h (p .start-in) (λ q. getD (s .args .outputs .now) q 0) (length (s .args .area .now)) low (c .if2 .taken), refl)
 
 witness-of-requires : tie.Need-witness-of-requires
 witness-of-requires c κs =
     let s = c .before .before .before .before .before .before .before .before .before .before .before in
-    let h = searched (s .args .set) (s .pre .0) (s .pre .3) (c .before .before .before .before .before .before .before .costs .ensures) (c .before .before .before .before .before .relax .ensures) in
-    (s .pre .0, s .pre .1, s .pre .2, s .pre .3, c .before .before .before .before .before .before .before .costs .ensures, c .before .before .before .before .before .relax .ensures, is-number h (s .pre .2) (c .before .before .before .before .if1 .left), c .before .before .before .if2 .left)
+    let p = s .pre in
+    let h = searched (s .args .set .bits) p (c .before .before .before .before .before .before .before .costs .ensures) (c .before .before .before .before .before .relax .ensures) in
+    record {
+      posed = p;
+      costs-are = c .before .before .before .before .before .before .before .costs .ensures;
+      relaxed = c .before .before .before .before .before .relax .ensures;
+      some = is-number h (p .start-in) (c .before .before .before .before .if1 .left);
+      fits = c .before .before .before .if2 .left;
+    }
 
 same-length : tie.Need-same-length
 same-length c = search needs
@@ -47,12 +59,13 @@ same-length c = search needs
 returns-3 : tie.Need-returns-3
 returns-3 c =
     let s = c .before .before .before .before .before .before .before .before .before .before .before .before .before .before in
-    let h = searched (s .args .set) (s .pre .0) (s .pre .3) (c .before .before .before .before .before .before .before .before .before .before .costs .ensures) (c .before .before .before .before .before .before .before .before .relax .ensures) in
-    let low = is-number h (s .pre .2) (c .before .before .before .before .before .before .before .if1 .left) in
+    let p = s .pre in
+    let h = searched (s .args .set .bits) p (c .before .before .before .before .before .before .before .before .before .before .costs .ensures) (c .before .before .before .before .before .before .before .before .relax .ensures) in
+    let low = is-number h (p .start-in) (c .before .before .before .before .before .before .before .if1 .left) in
     let fits = c .before .before .before .before .before .before .if2 .left in
     let w = c .before .before .witness-of in (
-      says-vulnerable h (s .pre .2) (λ q. getD (s .args .outputs .now) q 0) (length (s .args .area .now)) low fits (w .ensures .0),
-      witness-fills h (s .pre .2) (witnessValues (w .result)) (s .args .area .now) low fits (w .ensures .1),
+      says-vulnerable h (p .start-in) (λ q. getD (s .args .outputs .now) q 0) (length (s .args .area .now)) low fits (w .ensures .0),
+      witness-fills h (p .start-in) (witnessValues (w .result)) (s .args .area .now) low fits (w .ensures .1),
     )
 
 pub examine-set-spec : {M : Type 1} → statement M

@@ -1,60 +1,50 @@
--- `examine_table` meets its contract.
-use Prim.Native.Nat.{_-_}
-use lib.ListN.{length, take}
+-- `examine_table` meets its contract: questions 9 and 10, and the search.
+use mathlib.Core.Path.{refl, sym, _∙_}
+use Prim.Native.Nat.{_≤_, _<_}
+use native.Mathlib.Omega.{arith}
 use borrow.Author.Needs.{needs}
-use Rattle.theory.specs.Monitor.{reading}
-use Rattle.monitor.specs.Format.{tableOf}
-use Rattle.immunity.specs.Findings.{finding}
-use Rattle.immunity.proofs.Tables.{filled-read, table-answer, table-area}
+use borrow.Author.Tests.{not-true, not-false, le-leb, lt-leb}
+use Rattle.theory.specs.Faults.{allFaults}
 use Rattle.immunity.proofs.examine_table.Statement.{statement}
 use Rattle.immunity.proofs.examine_table.Tie as tie
 
-slice-aggregate-write-readings : tie.Need-slice-aggregate-write-readings
-slice-aggregate-write-readings c = search needs
+returns : tie.Need-returns
+returns c =
+    let l : allFaults < c .before .before .before .before .args .set = omega (arith, c .if1 .taken) in
+    (rw (lt-leb _ _ l), refl)
 
-write-readings-requires : tie.Need-write-readings-requires
-write-readings-requires c κs = search needs
+is-reading-requires : tie.Need-is-reading-requires
+is-reading-requires c κs = search needs
 
-sub-read : tie.Need-sub-read
-sub-read c = search needs
+returns-2 : tie.Need-returns-2
+returns-2 c =
+    let l : c .before .before .before .before .before .before .args .set ≤ allFaults = omega (arith, c .before .before .if1 .left) in
+    (rw (le-leb _ _ l, sym (c .before .is-reading .ensures) ∙ not-true _ (c .if2 .taken)), refl)
 
-part-read-start : tie.Need-part-read-start
-part-read-start c = search needs
+of-requires : tie.Need-of-requires
+of-requires c κs = search needs
 
-part-read-end : tie.Need-part-read-end
-part-read-end c = search needs
-
-distances-requires : tie.Need-distances-requires
-distances-requires c κs = search needs
-
-examine-set-requires : tie.Need-examine-set-requires
-examine-set-requires c κs = search needs
+examine-reading-requires : tie.Need-examine-reading-requires
+examine-reading-requires c κs = search needs
 
 same-length : tie.Need-same-length
 same-length c = search needs
 
-returns : tie.Need-returns
-returns c =
-    let s = c .before .before .before .before .before .before .before .before .before .before .before .before .before .before in
-    let w = c .before .before .before .before .before .before .before .before .before .write-readings in
-    let m = tableOf (s .args .n) (s .args .k) (s .args .start) (s .args .marks .now) (s .args .nexts .now) in
-    let outs = take (s .args .n - 0) (w .last .1 .1 .1 .1 .1 .0) in
-    let read = filled-read (s .args .n) (reading m (s .args .domain)) _ (w .ensures (s .args .start)) in
-    let e = c .before .before .examine-set .ensures in (
-      table-answer (s .pre) (s .args .domain) (s .args .set) outs read (length (s .args .area .now)) (e .0),
-      table-area (s .pre) (s .args .domain) (s .args .set) outs read (finding (c .before .before .examine-set .result)) (s .args .area .now) (e .1),
-    )
+returns-3 : tie.Need-returns-3
+returns-3 c =
+    let l : c .before .before .before .before .before .before .before .before .before .before .before .args .set ≤ allFaults = omega (arith, c .before .before .before .before .before .before .before .if1 .left) in
+    let known = sym (c .before .before .before .before .before .before .is-reading .ensures) ∙ not-false _ (c .before .before .before .before .before .if2 .left) in
+    let e = c .before .before .examine-reading .ensures in
+    rw (le-leb _ _ l, known, ← c .before .before .before .before .of .ensures) e
 
 pub examine-table-spec : {M : Type 1} → statement M
 examine-table-spec =
     tie.close
     (tie.spec
-    slice-aggregate-write-readings
-    write-readings-requires
-    sub-read
-    part-read-start
-    part-read-end
-    distances-requires
-    examine-set-requires
+    returns
+    is-reading-requires
+    returns-2
+    of-requires
+    examine-reading-requires
     same-length
-    returns)
+    returns-3)

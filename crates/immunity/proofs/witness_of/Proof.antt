@@ -5,14 +5,16 @@ use borrow.Author.Needs.{needs}
 use Rattle.monitor.proofs.Rows.{next-of-rows}
 use Rattle.pairs.proofs.Path.{squared-falls}
 use Rattle.immunity.proofs.Search.{search-leads}
-use Rattle.immunity.proofs.Made.{searched, chosen, inside-wider, made-at, made-fits, made-fits-on, made-apart, made-written, made-figures}
+use Rattle.immunity.proofs.Made.{search-ready, chosen, inside-wider, made-at, made-fits, made-fits-on, made-apart, made-written, made-figures}
 use Rattle.immunity.proofs.witness_of.Statement.{statement}
 use Rattle.immunity.proofs.witness_of.Tie as tie
 
 write-before-requires : tie.Need-write-before-requires
 write-before-requires c κs =
     let s = c .before .before .before .before in
-    (s .pre .0, search-leads (s .args .set) (next-of-rows (s .pre .0)) (s .pre .3) (s .pre .4) (s .pre .5), s .pre .2, s .pre .6, s .pre .7)
+    let p = s .pre .posed in
+    let leads = search-leads (s .args .set .bits) (next-of-rows (p .rows)) (p .squared) (s .pre .costs-are) (s .pre .relaxed) in
+    (p .rows, leads, p .start-in, s .pre .some, s .pre .fits)
 
 mul-fault-with : tie.Need-mul-fault-with
 mul-fault-with c = search needs
@@ -24,64 +26,69 @@ fault-with-requires : tie.Need-fault-with-requires
 fault-with-requires c κs =
     let s = c .before .before .before .before .before .before .before .before in
     let w = c .before .before .before .write-before .ensures in
-    (s .pre .0, w .1 .1 .0 .1, omega (arith, w .1 .1 .1, s .pre .6), s .pre .4 .each _ (w .1 .1 .0 .1))
+    (s .pre .posed .rows, (w .1 .1 .0 .1, (omega (arith, w .1 .1 .1, s .pre .some), s .pre .costs-are .each _ (w .1 .1 .0 .1))))
 
 write-symbols-requires : tie.Need-write-symbols-requires
 write-symbols-requires c κs =
     let s = c .before .before .before .before .before .before .before .before .before .before in
     let w = c .before .before .before .before .before .write-before .ensures in
-    let h = searched (s .args .set) (s .pre .0) (s .pre .3) (s .pre .4) (s .pre .5) in
-    let k = chosen h (s .args .start) (s .pre .2) (s .pre .6) (w .1 .0) (w .1 .1 .0 .0) (w .1 .1 .0 .1) (w .1 .1 .1) (c .before .fault-with .ensures) in
-    (made-fits h k (s .args .area .now) (w .0) (s .pre .7), inside-wider (k .ranged .sent-in) (s .pre .0 .symbols-most))
+    let h = search-ready (s .pre) in
+    let k = chosen (s .pre) (w .1 .0, w .1 .1 .0, w .1 .1 .1) (c .before .fault-with .ensures) in
+    (made-fits h k (s .args .area .now) (w .0) (s .pre .fits), inside-wider (k .ranged .sent-in) (s .pre .posed .rows .symbols-most))
 
 after-requires : tie.Need-after-requires
-after-requires c κs = search needs
+after-requires c κs =
+    let inside = c .before .before .before .before .before .before .before .before .write-before .ensures .1 .1 .0 .1 in
+    (c .before .before .before .before .before .before .before .before .before .before .before .before .before .pre .posed .rows, (inside, c .before .before .before .before .fault-with .ensures .1 .sent-in))
 
 after-requires-2 : tie.Need-after-requires-2
-after-requires-2 c κs = search needs
+after-requires-2 c κs =
+    let inside = c .before .before .before .before .before .before .before .before .before .write-before .ensures .1 .1 .0 .1 in
+    (c .before .before .before .before .before .before .before .before .before .before .before .before .before .before .pre .posed .rows, (inside, c .before .before .before .before .before .fault-with .ensures .1 .received-in))
 
 add-at : tie.Need-add-at
 add-at c =
     let s = c .before .before .before .before .before .before .before .before .before .before .before .before .before .before .before .before in
     let w = c .before .before .before .before .before .before .before .before .before .before .before .write-before .ensures in
-    let h = searched (s .args .set) (s .pre .0) (s .pre .3) (s .pre .4) (s .pre .5) in
-    let k = chosen h (s .args .start) (s .pre .2) (s .pre .6) (w .1 .0) (w .1 .1 .0 .0) (w .1 .1 .0 .1) (w .1 .1 .1) (c .before .before .before .before .before .before .before .fault-with .ensures) in
+    let h = search-ready (s .pre) in
+    let k = chosen (s .pre) (w .1 .0, w .1 .1 .0, w .1 .1 .1) (c .before .before .before .before .before .before .before .fault-with .ensures) in
     let m = made-at h k in
-    omega (arith, m, s .pre .6)
+    omega (arith, m, s .pre .some)
 
 write-apart-requires : tie.Need-write-apart-requires
 write-apart-requires c κs =
     let s = c .before .before .before .before .before .before .before .before .before .before .before .before .before .before .before .before .before in
     let w = c .before .before .before .before .before .before .before .before .before .before .before .before .write-before .ensures in
-    let h = searched (s .args .set) (s .pre .0) (s .pre .3) (s .pre .4) (s .pre .5) in
-    let k = chosen h (s .args .start) (s .pre .2) (s .pre .6) (w .1 .0) (w .1 .1 .0 .0) (w .1 .1 .0 .1) (w .1 .1 .1) (c .before .before .before .before .before .before .before .before .fault-with .ensures) in
+    let h = search-ready (s .pre) in
+    let k = chosen (s .pre) (w .1 .0, w .1 .1 .0, w .1 .1 .1) (c .before .before .before .before .before .before .before .before .fault-with .ensures) in
     let p = c .before .before .before .after .ensures in
-    let q = c .before .before .after2 .ensures in (
-      s .pre .0,
-      squared-falls (next-of-rows (s .pre .0)) (s .pre .3),
+    let q = c .before .before .after2 .ensures in
+    let written = c .before .before .before .before .before .before .write-symbols .ensures in (
+      s .pre .posed .rows,
+      squared-falls (next-of-rows (s .pre .posed .rows)) (s .pre .posed .squared),
       p .1,
       q .1,
       made-apart h k (p .0) (q .0),
-      made-fits-on h k (s .args .area .now) (w .0) (c .before .before .before .before .before .before .write-symbols .ensures) (p .0) (q .0) (s .pre .7),
+      made-fits-on h k (s .args .area .now) (w .0) written (p .0) (q .0) (s .pre .fits),
     )
 
-mul-t23 : tie.Need-mul-t23
-mul-t23 c = (let s = c .before .before .before .before .before .before .before .before .before .before .before .before .before .before .before .before .before .before .before .before in omega (arith, s .pre .2, s .pre .0 .states-most))
+mul-t25 : tie.Need-mul-t25
+mul-t25 c = (let p = c .before .before .before .before .before .before .before .before .before .before .before .before .before .before .before .before .before .before .before .before .pre .posed in omega (arith, p .start-in, p .rows .states-most))
 
-element-copy-out-t26 : tie.Need-element-copy-out-t26
-element-copy-out-t26 c = (let s = c .before .before .before .before .before .before .before .before .before .before .before .before .before .before .before .before .before .before .before .before in omega (arith, s .pre .2, s .pre .0 .states-most))
+element-copy-out-t28 : tie.Need-element-copy-out-t28
+element-copy-out-t28 c = (let p = c .before .before .before .before .before .before .before .before .before .before .before .before .before .before .before .before .before .before .before .before .pre .posed in omega (arith, p .start-in, p .rows .states-most))
 
-shared-slice-read-t35 : tie.Need-shared-slice-read-t35
-shared-slice-read-t35 c = omega (arith, c .before .before .before .before .write-apart .ensures .1 .0 .1, c .before .before .before .before .before .before .before .before .before .before .before .before .before .before .before .before .before .before .before .before .before .before .pre .1)
+shared-slice-read-t37 : tie.Need-shared-slice-read-t37
+shared-slice-read-t37 c = (let p = c .before .before .before .before .before .before .before .before .before .before .before .before .before .before .before .before .before .before .before .before .before .before .pre .posed in omega (arith, c .before .before .before .before .write-apart .ensures .1 .0 .1, p .outputs))
 
-cast-t36 : tie.Need-cast-t36
-cast-t36 c = omega (arith, c .shared-slice-known3 .given (c .before .before .before .before .write-apart .result .sent))
+cast-t38 : tie.Need-cast-t38
+cast-t38 c = omega (arith, c .shared-slice-known3 .given (c .before .before .before .before .write-apart .result .sent))
 
-shared-slice-read-t38 : tie.Need-shared-slice-read-t38
-shared-slice-read-t38 c = omega (arith, c .before .before .before .before .before .write-apart .ensures .1 .1 .1, c .before .before .before .before .before .before .before .before .before .before .before .before .before .before .before .before .before .before .before .before .before .before .before .pre .1)
+shared-slice-read-t40 : tie.Need-shared-slice-read-t40
+shared-slice-read-t40 c = (let p = c .before .before .before .before .before .before .before .before .before .before .before .before .before .before .before .before .before .before .before .before .before .before .before .pre .posed in omega (arith, c .before .before .before .before .before .write-apart .ensures .1 .1 .1, p .outputs))
 
-cast-t39 : tie.Need-cast-t39
-cast-t39 c = omega (arith, c .shared-slice-known4 .given (c .before .before .before .before .before .write-apart .result .received))
+cast-t41 : tie.Need-cast-t41
+cast-t41 c = omega (arith, c .shared-slice-known4 .given (c .before .before .before .before .before .write-apart .result .received))
 
 same-length : tie.Need-same-length
 same-length c =
@@ -94,13 +101,14 @@ returns : tie.Need-returns
 returns c =
     let s = c .before .before .before .before .before .before .before .before .before .before .before .before .before .before .before .before .before .before .before .before .before .before .before in
     let w = c .before .before .before .before .before .before .before .before .before .before .before .before .before .before .before .before .before .before .write-before .ensures in
-    let h = searched (s .args .set) (s .pre .0) (s .pre .3) (s .pre .4) (s .pre .5) in
-    let k = chosen h (s .args .start) (s .pre .2) (s .pre .6) (w .1 .0) (w .1 .1 .0 .0) (w .1 .1 .0 .1) (w .1 .1 .1) (c .before .before .before .before .before .before .before .before .before .before .before .before .before .before .fault-with .ensures) in
+    let h = search-ready (s .pre) in
+    let k = chosen (s .pre) (w .1 .0, w .1 .1 .0, w .1 .1 .1) (c .before .before .before .before .before .before .before .before .before .before .before .before .before .before .fault-with .ensures) in
     let p = c .before .before .before .before .before .before .before .before .before .after .ensures in
     let q = c .before .before .before .before .before .before .before .before .after2 .ensures in
-    let e = c .before .before .before .before .before .write-apart .ensures in (
+    let e = c .before .before .before .before .before .write-apart .ensures in
+    let written = c .before .before .before .before .before .before .before .before .before .before .before .before .write-symbols .ensures in (
       λ z f. made-figures h k (s .args .outputs .now) f (p .0) (q .0) (e .1 .0 .0) (e .1 .1 .0),
-      λ z f. made-written h k (s .args .area .now) f (w .0) (c .before .before .before .before .before .before .before .before .before .before .before .before .write-symbols .ensures) (p .0) (q .0) (e .0),
+      λ z f. made-written h k (s .args .area .now) f (w .0) written (p .0) (q .0) (e .0),
     )
 
 pub witness-of-spec : {M : Type 1} → statement M
@@ -116,11 +124,11 @@ witness-of-spec =
     after-requires-2
     add-at
     write-apart-requires
-    mul-t23
-    element-copy-out-t26
-    shared-slice-read-t35
-    cast-t36
-    shared-slice-read-t38
-    cast-t39
+    mul-t25
+    element-copy-out-t28
+    shared-slice-read-t37
+    cast-t38
+    shared-slice-read-t40
+    cast-t41
     same-length
     returns)

@@ -1,0 +1,94 @@
+-- The columns of a card, one after the other; the distance that a finding tells; a card after its questions.
+use mathlib.Core.Path.{_≡_, refl, sym, ap, ap₂, _∙_}
+use mathlib.Core.List.{List, [], _∷_, _++_, append-nil}
+use mathlib.Core.Option.{Option, none, some}
+use Prim.Native.Nat.{ℕ, suc, _+_, _≤_, _<_}
+use native.Mathlib.Numerals.{add-one}
+use native.Mathlib.Omega.{arith}
+use lib.ListN.{length, take, set, replicate, length-set}
+use lib.Seq.{take-suc-set, take-all}
+use Rattle.theory.specs.Lists.{each}
+use Rattle.theory.specs.Monitor.{Monitor, reading, monitorability}
+use Rattle.theory.specs.Answer.{Question, Answer, refused, answered, asks}
+use Rattle.theory.specs.Faults.{kinds}
+use Rattle.theory.specs.Extent.{Extent, number, missing}
+use Rattle.theory.specs.Series.{Series}
+use Rattle.theory.specs.Computed.{extentOf, firstWitness, distance}
+use Rattle.basics.specs.Refusals.{refusal}
+use Rattle.basics.specs.declared.Refusal.{Refusal}
+use Rattle.immunity.specs.declared.Column.{Column}
+use Rattle.immunity.specs.Findings.{witnessFigures, tableFigures, finding, summaryFigures, columnFigures, cardAsking, found}
+
+-- ---- the distance that an answer tells
+
+abbrev pub told : Answer → Extent
+told (refused n place) = missing
+told (answered []) = missing
+told (answered (x ∷ xs)) = number x
+
+-- the answer for a table, a reading and a fault set tells its distance
+pub told-is : (m : Monitor) (d set : ℕ) → told (answered (tableFigures m d set)) ≡ distance m d set
+told-is m d set = go (firstWitness m d set)
+  where
+    go : (o : Option Series) → told (answered (witnessFigures (reading m d) (m .automaton) (m .start) o)) ≡ extentOf o
+    go none = refl
+    go (some s) = refl
+
+-- ---- the columns, filled one after the other
+
+found-append : (xs ys : List Column) → found (xs ++ ys) ≡ found xs ++ found ys
+found-append [] ys = refl
+found-append (x ∷ xs) ys = ap (λ (l : List Answer). finding (x .finding) ∷ l) (found-append xs ys)
+
+-- the columns below `rank` are filled
+pub record Filled (answer : ℕ → Answer) (rank : ℕ) (columns : List Column) : Type 0 where
+  pub upto : rank ≤ kinds
+  pub size : length columns ≡ kinds
+  pub filled : found (take rank columns) ≡ each rank (λ c. answer c ∷ [])
+
+pub filled-none : (answer : ℕ → Answer) (column : Column) → Filled answer 0 (replicate kinds column)
+unfolding each
+filled-none answer column = record { upto = omega arith; size = refl; filled = refl }
+
+pub filled-more : {answer : ℕ → Answer} {rank : ℕ} {columns : List Column} (column : Column) → Filled answer rank columns → rank < kinds
+    → finding (column .finding) ≡ answer rank → Filled answer (rank + 1) (set columns rank column)
+unfolding each
+filled-more {answer} {rank} {columns} column h l e = record {
+  upto = omega (arith, l);
+  size = length-set columns rank column ∙ h .size;
+  filled =
+      ap (λ (i : ℕ). found (take i (set columns rank column))) (add-one rank)
+      ∙ ap found (take-suc-set columns rank column (omega (arith, l, h .size)))
+      ∙ found-append (take rank columns) (column ∷ [])
+      ∙ ap₂ (λ (front : List Answer) (a : Answer). front ++ (a ∷ [])) (h .filled) e
+      ∙ ap (λ (i : ℕ). each i (λ c. answer c ∷ [])) (sym (add-one rank));
+}
+
+pub filled-all : {answer : ℕ → Answer} {rank : ℕ} {columns : List Column} → Filled answer rank columns → kinds ≤ rank → found columns ≡ each kinds (λ c. answer c ∷ [])
+filled-all {answer} {rank} {columns} h l =
+    let e : rank ≡ kinds = omega (arith, l, h .upto) in
+    ap found (sym (take-all rank columns (omega (arith, l, h .size)))) ∙ h .filled ∙ ap (λ (i : ℕ). each i (λ c. answer c ∷ [])) e
+
+-- what the column of a rank answers
+abbrev pub alone-in : Monitor → ℕ → Answer
+alone-in m c = answered (columnFigures c m)
+
+-- ---- the card of a refused body, and of an accepted one
+
+module _ (questions : List Question) (m : Monitor) where
+  abbrev figures : ℕ → List ℕ
+  figures c = columnFigures c m
+
+  pub card-asks : ((values : List ℕ) → asks questions values ≡ answered values) → cardAsking [] m ≡ cardAsking questions m
+  unfolding each
+  card-asks e = sym (rw (e (summaryFigures m), e (figures 0), e (figures 1), e (figures 2), e (figures 3)))
+
+  pub card-refuses : (x : Refusal) → ((values : List ℕ) → asks questions values ≡ refusal x)
+      → record { summary = refusal x; columns = replicate kinds (refusal x) } ≡ cardAsking questions m
+  unfolding each
+  card-refuses x e = sym (rw (e (summaryFigures m), e (figures 0), e (figures 1), e (figures 2), e (figures 3)))
+
+-- the card of a table by its parts
+pub card-is : (m : Monitor) {y : ℕ} {columns : List Answer} → y ≡ monitorability m → columns ≡ cardAsking [] m .columns
+    → record { summary = answered (m .automaton .states ∷ y ∷ []); columns = columns } ≡ cardAsking [] m
+card-is m ey ec = rw (ey, ec)
