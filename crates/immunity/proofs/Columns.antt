@@ -1,38 +1,19 @@
--- The columns of a card, one after the other; the distance that a finding tells; a card after its questions.
+-- The columns of a card, one after the other; a card after its questions.
 use mathlib.Core.Path.{_≡_, refl, sym, ap, ap₂, _∙_}
 use mathlib.Core.List.{List, [], _∷_, _++_, append-nil}
-use mathlib.Core.Option.{Option, none, some}
 use Prim.Native.Nat.{ℕ, suc, _+_, _≤_, _<_}
 use native.Mathlib.Numerals.{add-one}
 use native.Mathlib.Omega.{arith}
 use lib.ListN.{length, take, set, replicate, length-set}
 use lib.Seq.{take-suc-set, take-all}
 use Rattle.theory.specs.Lists.{each}
-use Rattle.theory.specs.Monitor.{Monitor, reading, monitorability}
-use Rattle.theory.specs.Answer.{Question, Answer, refused, answered, asks}
+use Rattle.theory.specs.Monitor.{Monitor, monitorability}
+use Rattle.theory.specs.Answer.{Question, Answer, answered, asks}
 use Rattle.theory.specs.Faults.{kinds}
-use Rattle.theory.specs.Extent.{Extent, number, missing}
-use Rattle.theory.specs.Series.{Series}
-use Rattle.theory.specs.Computed.{extentOf, firstWitness, distance}
 use Rattle.basics.specs.Refusals.{refusal}
 use Rattle.basics.specs.declared.Refusal.{Refusal}
 use Rattle.immunity.specs.declared.Column.{Column}
-use Rattle.immunity.specs.Findings.{witnessFigures, tableFigures, finding, summaryFigures, columnFigures, cardAsking, found}
-
--- ---- the distance that an answer tells
-
-abbrev pub told : Answer → Extent
-told (refused n place) = missing
-told (answered []) = missing
-told (answered (x ∷ xs)) = number x
-
--- the answer for a table, a reading and a fault set tells its distance
-pub told-is : (m : Monitor) (d set : ℕ) → told (answered (tableFigures m d set)) ≡ distance m d set
-told-is m d set = go (firstWitness m d set)
-  where
-    go : (o : Option Series) → told (answered (witnessFigures (reading m d) (m .automaton) (m .start) o)) ≡ extentOf o
-    go none = refl
-    go (some s) = refl
+use Rattle.immunity.specs.Findings.{finding, summaryFigures, columnFigures, cardAsking, found}
 
 -- ---- the columns, filled one after the other
 

@@ -1,60 +1,115 @@
 -- The line that is written is the line of the definition.
 use mathlib.Core.Path.{_≡_, refl, sym, ap, _∙_}
 use mathlib.Core.List.{List, [], _∷_, _++_}
-use Prim.Native.Nat.{ℕ, _+_, _≤_, _<_}
+use mathlib.Core.Option.{Option, none, some}
+use Prim.Native.Nat.{ℕ, _+_, _≤_, _<_, _^_}
 use native.Mathlib.Nat.{zero-add}
 use native.Mathlib.Omega.{arith}
-use lib.ListN.{length, take, drop, length-take}
+use lib.ListN.{length, getD, take, drop, length-take}
 use lib.Seq.{take-length}
 use borrow.Author.Tests.{le-leb, lt-leb}
-use Rattle.theory.specs.Answer.{refused, answered, written}
-use Rattle.theory.specs.Monitor.{Monitor}
-use Rattle.theory.specs.Extent.{number}
-use Rattle.theory.specs.Computed.{distance}
-use Rattle.theory.proofs.Answer.{written-over}
-use Rattle.monitor.specs.Format.{monitorOf}
+use Rattle.theory.specs.Lists.{each}
+use Rattle.theory.specs.Answer.{Answer, refused, answered, asks, written}
+use Rattle.theory.specs.Monitor.{Monitor, reading, monitorability}
+use Rattle.theory.specs.Faults.{kinds}
+use Rattle.theory.specs.Series.{Series}
+use Rattle.theory.specs.Computed.{extentOf, firstWitness, distance}
+use Rattle.theory.proofs.Answer.{written-over, asks-values, asks-other, asks-refuses}
+use Rattle.basics.specs.Refusals.{refusal}
 use Rattle.basics.specs.declared.Refusal.{Refusal}
+use Rattle.monitor.specs.Format.{monitorOf}
+use Rattle.monitor.specs.Questions.{tableQuestions, judgeAnswer}
+use Rattle.immunity.specs.declared.Column.{Column}
 use Rattle.immunity.specs.declared.Finding.{Finding}
+use Rattle.immunity.specs.declared.Summary.{Summary}
 use Rattle.immunity.specs.declared.LinkCard.{LinkCard}
-use Rattle.immunity.specs.declared.Carded.{Carded}
-use Rattle.immunity.specs.Findings.{finding, tableFigures, carded, cardAnswer}
-use Rattle.immunity.proofs.Column.{told, told-is, Held, card-held, card-refused}
-use Rattle.collection.specs.Contents.{ruleOf, bodyOf}
-use Rattle.lines.specs.Line.{distanceText, cardLine, refusalLine, ruleLine, entryLine, lineAnswer, findingText, shownLine, Put}
+use Rattle.immunity.specs.Findings.{witnessFigures, tableFigures, finding, summaryFigures, columnFigures, CardAnswer, cardAsking, cardAnswer, found, summarised, carded}
+use Rattle.immunity.proofs.Columns.{card-asks}
+use Rattle.lines.specs.Text.{ascii, decimal}
+use Rattle.lines.specs.Line.{distanceText, distanceTexts, refusalLine, ruleLine, lineAnswer, findingText, columnTexts, shownLine, Put}
 
--- the text of a finding is that of the distance
-finding-text : (m : Monitor) (d set : ℕ) (f : Finding) → finding f ≡ answered (tableFigures m d set) → findingText f ≡ distanceText (distance m d set)
-finding-text m d set f e = told-text f ∙ ap distanceText (sym (told-is m d set f e))
+-- ---- the texts of columns by what their findings answer
+
+answerText : Answer → List ℕ
+answerText (refused n place) = ascii "refused"
+answerText (answered []) = ascii "-"
+answerText (answered (x ∷ xs)) = decimal x
+
+answerTexts : List Answer → List (List ℕ)
+answerTexts [] = []
+answerTexts (a ∷ more) = answerText a ∷ answerTexts more
+
+finding-text : (f : Finding) → findingText f ≡ answerText (finding f)
+unfolding answerText
+finding-text (Finding.Refused r) = refl
+finding-text Finding.Immune = refl
+finding-text (Finding.Vulnerable w) = refl
+
+column-texts : (columns : List Column) → columnTexts columns ≡ answerTexts (found columns)
+unfolding answerTexts
+column-texts [] = refl
+column-texts (column ∷ columns) = rw (finding-text (column .finding), column-texts columns)
+
+distance-text : (m : Monitor) (d set : ℕ) → answerText (answered (tableFigures m d set)) ≡ distanceText (distance m d set)
+unfolding answerText
+distance-text m d set = go (firstWitness m d set)
   where
-    told-text : (x : Finding) → findingText x ≡ distanceText (told (finding x))
-    told-text (Finding.Refused r) = refl
-    told-text Finding.Immune = refl
-    told-text (Finding.Vulnerable w) = refl
+    go : (o : Option Series) → answerText (answered (witnessFigures (reading m d) (m .automaton) (m .start) o)) ≡ distanceText (extentOf o)
+    go none = refl
+    go (some s) = refl
 
-card-text : (rule : ℕ) {b : List ℕ} {c : LinkCard} → Held b c → shownLine rule c ≡ cardLine rule (monitorOf b)
-card-text rule {b} {c} h =
-    let m = monitorOf b in
-    rw (h .states, h .monitorable, finding-text m 3 1 (c .loss) (h .loss), finding-text m 3 2 (c .corruption) (h .corruption), finding-text m 3 4 (c .repeat) (h .repeat), finding-text m 3 8 (c .swap) (h .swap))
+distance-texts : (m : Monitor) → answerTexts (cardAsking [] m .columns) ≡ distanceTexts m
+unfolding answerTexts each
+distance-texts m = rw (distance-text m 3 1, distance-text m 3 2, distance-text m 3 4, distance-text m 3 8)
 
--- the line of a rule, by its card
-module _ (limit : ℕ) (b : List ℕ) (rule : ℕ) {r : Carded} (e : carded r ≡ cardAnswer limit b) where
-  pub rule-carded : {c : LinkCard} → r ≡ Carded.Card c → shownLine rule c ≡ ruleLine limit rule b
-  rule-carded h = (let k = card-held limit b r e h in card-text rule (k .1) ∙ rw (k .0))
+found-length : (columns : List Column) → length columns ≡ length (found columns)
+found-length [] = refl
+found-length (column ∷ columns) = rw (found-length columns)
 
-  pub rule-refused : {x : Refusal} → r ≡ Carded.Refused x → refusalLine rule (x .number) (x .place) ≡ ruleLine limit rule b
-  rule-refused h = rw (card-refused limit b r e h)
+-- ---- the line of a rule, by its card
 
--- the line of an entry, put at the front of a buffer
-module _ (limit : ℕ) (file : List ℕ) (i : ℕ) {rule : ℕ} {body before after : List ℕ} {to : ℕ} (er : rule ≡ ruleOf file i) (eb : body ≡ bodyOf file i) (p : Put (ruleLine limit rule body) before 0 after to) where
-  text-is : ruleLine limit rule body ≡ entryLine limit file i
-  unfolding entryLine
-  text-is = rw (er, eb)
+module _ (limit : ℕ) (b : List ℕ) (rule : ℕ) (card : LinkCard) (e : carded card ≡ cardAnswer limit b) where
+  abbrev m : Monitor
+  m = monitorOf b
 
-  line-length : to ≡ length (entryLine limit file i)
-  line-length = p .ends ∙ zero-add (length (ruleLine limit rule body)) ∙ ap length text-is
+  abbrev summary-is : Answer → Type 0
+  summary-is a = a ≡ asks (tableQuestions limit b) (summaryFigures m)
 
-  line-held : take to after ≡ entryLine limit file i
-  line-held = p .holds ∙ text-is
+  summary : summary-is (summarised (card .summary))
+  unfolding cardAnswer
+  summary = ap (λ (c : CardAnswer). c .summary) e
+
+  columns : found (card .columns) ≡ cardAsking (tableQuestions limit b) m .columns
+  unfolding cardAnswer
+  columns = ap (λ (c : CardAnswer). c .columns) e
+
+  pub columns-counted : length (card .columns) ≡ kinds
+  unfolding each
+  columns-counted = found-length (card .columns) ∙ ap length columns
+
+  pub rule-carded : {n y : ℕ} → card .summary ≡ Summary.Table n y → shownLine rule n y (card .columns) ≡ ruleLine limit rule b
+  unfolding ruleLine judgeAnswer
+  rule-carded {n} {y} h =
+      let passed : asks (tableQuestions limit b) (summaryFigures m) ≡ answered (n ∷ y ∷ []) = sym summary ∙ ap summarised h in
+      let accepts : (values : List ℕ) → asks (tableQuestions limit b) values ≡ answered values = λ values. asks-other (tableQuestions limit b) (summaryFigures m) values passed in
+      let texts : columnTexts (card .columns) ≡ distanceTexts m =
+      column-texts (card .columns) ∙ ap answerTexts (columns ∙ ap (λ (c : CardAnswer). c .columns) (sym (card-asks (tableQuestions limit b) m accepts))) ∙ distance-texts m in
+      let values : summaryFigures m ≡ n ∷ y ∷ [] = asks-values (tableQuestions limit b) (summaryFigures m) passed in
+      let states : m .automaton .states ≡ n = ap (λ (l : List ℕ). getD l 0 0) values in
+      let monitorable : monitorability m ≡ y = ap (λ (l : List ℕ). getD l 1 0) values in
+      rw (texts, ← states, ← monitorable, accepts [])
+
+  pub rule-refused : {x : Refusal} → card .summary ≡ Summary.Refused x → refusalLine rule (x .number) (x .place) ≡ ruleLine limit rule b
+  unfolding ruleLine judgeAnswer
+  rule-refused h = rw (asks-refuses (tableQuestions limit b) (summaryFigures m) [] (sym summary ∙ ap summarised h))
+
+-- the line of a rule, put at the front of a buffer
+module _ (limit rule : ℕ) (body : List ℕ) {before after : List ℕ} {to : ℕ} (p : Put (ruleLine limit rule body) before 0 after to) where
+  line-length : to ≡ length (ruleLine limit rule body)
+  line-length = p .ends ∙ zero-add (length (ruleLine limit rule body))
+
+  line-held : take to after ≡ ruleLine limit rule body
+  line-held = p .holds
 
   pub line-counted : to ≡ length (take to after)
   line-counted = line-length ∙ sym (ap length line-held)
@@ -63,17 +118,17 @@ module _ (limit : ℕ) (file : List ℕ) (i : ℕ) {rule : ℕ} {body before aft
   line-inside = (let x = line-counted ∙ length-take to after in omega (arith, x))
 
   module _ (area : List ℕ) where
-    pub line-refused : length area < to → refused 13 0 ≡ lineAnswer limit file i (length area)
+    pub line-refused : length area < to → refused 13 0 ≡ lineAnswer limit rule body (length area)
     unfolding lineAnswer
     line-refused h = rw (← line-length, lt-leb to (length area) h)
 
     module _ (h : to ≤ length area) where
-      pub line-fits : answered (to ∷ []) ≡ lineAnswer limit file i (length area)
+      pub line-fits : answered (to ∷ []) ≡ lineAnswer limit rule body (length area)
       unfolding lineAnswer
       line-fits = rw (← line-length, le-leb to (length area) h)
 
-      pub line-written : take (length (take to after)) (take to after) ++ drop (length (take to after)) area ≡ written (lineAnswer limit file i (length area)) (entryLine limit file i) area
+      pub line-written : take (length (take to after)) (take to after) ++ drop (length (take to after)) area ≡ written (lineAnswer limit rule body (length area)) (ruleLine limit rule body) area
       line-written =
           ap (λ (l : List ℕ). take (length l) l ++ drop (length l) area) line-held
-          ∙ ap (λ (l : List ℕ). l ++ drop (length (entryLine limit file i)) area) (take-length (entryLine limit file i))
-          ∙ written-over (entryLine limit file i) area (sym line-fits)
+          ∙ ap (λ (l : List ℕ). l ++ drop (length (ruleLine limit rule body)) area) (take-length (ruleLine limit rule body))
+          ∙ written-over (ruleLine limit rule body) area (sym line-fits)

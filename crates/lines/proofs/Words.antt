@@ -1,5 +1,5 @@
 -- The words for monitorabilities and findings.
-use mathlib.Core.Path.{_≡_, refl}
+use mathlib.Core.Path.{_≡_, refl, subst}
 use mathlib.Core.List.{List, [], _∷_, _++_}
 use mathlib.Core.Logic.{⊎-elim}
 use Prim.Native.Nat.{ℕ, _+_, _≤_}
@@ -9,6 +9,7 @@ use types.Run.{OneOf}
 use lib.ListN.{length}
 use borrow.Author.Tests.{ne-eqb}
 use Rattle.immunity.specs.declared.Finding.{Finding}
+use Rattle.immunity.specs.declared.Witness.{Witness}
 use Rattle.immunity.proofs.Finding as the-finding
 use Rattle.lines.specs.Text.{ascii}
 use Rattle.lines.specs.Line.{monitorabilityText, findingText, Put}
@@ -30,7 +31,12 @@ both-word e = rw e
 pub none-word : {m : ℕ} → (m ≡ 0 → ⊥) → (m ≡ 1 → ⊥) → (m ≡ 2 → ⊥) → ascii " none" ≡ ascii " " ++ monitorabilityText m
 none-word {m} a b c = rw (ne-eqb m 0 a, ne-eqb m 1 b, ne-eqb m 2 c)
 
-pub immune-word : (f : Finding) → OneOf (0 ∷ 1 ∷ []) (tagOf the-finding.the-type f) → ascii " -" ≡ ascii " " ++ findingText f
-immune-word (Finding.Refused r) k = refl
-immune-word Finding.Immune k = refl
-immune-word (Finding.Vulnerable w) k = absurd (⊎-elim (λ (z : _≡_ {A = ℕ} 2 0). omega arith) (λ (z : _≡_ {A = ℕ} 2 1). omega arith) k)
+pub refused-word : (f : Finding) → ((w : Witness) → f ≡ Finding.Vulnerable w → ⊥) → OneOf (0 ∷ 2 ∷ []) (tagOf the-finding.the-type f) → ascii " refused" ≡ ascii " " ++ findingText f
+refused-word (Finding.Refused r) n k = refl
+refused-word Finding.Immune n k = absurd (⊎-elim (λ (z : _≡_ {A = ℕ} 1 0). omega arith) (λ (z : _≡_ {A = ℕ} 1 2). omega arith) k)
+refused-word (Finding.Vulnerable w) n k = absurd (n w refl)
+
+pub not-vulnerable : (f : Finding) → OneOf (0 ∷ 1 ∷ []) (tagOf the-finding.the-type f) → (w : Witness) → f ≡ Finding.Vulnerable w → ⊥
+not-vulnerable f k w e =
+    ⊎-elim (λ (z : _≡_ {A = ℕ} 2 0). omega arith) (λ (z : _≡_ {A = ℕ} 2 1). omega arith)
+    (subst (λ (x : Finding). OneOf (0 ∷ 1 ∷ []) (tagOf the-finding.the-type x)) e k)

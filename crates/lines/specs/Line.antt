@@ -1,44 +1,52 @@
--- The listing's line for an entry of a collection.
+-- The listing's line for a rule and its body.
 use mathlib.Core.Path.{_≡_}
 use mathlib.Core.Bool.{cond}
 use mathlib.Core.List.{List, [], _∷_, _++_}
-use Prim.Native.Nat.{ℕ, _+_}
+use Prim.Native.Nat.{ℕ, _+_, _^_}
 use lib.Dec.{eqb}
 use lib.ListN.{length, take}
+use Rattle.theory.specs.Lists.{each}
 use Rattle.theory.specs.Answer.{Answer, refused, answered, asks}
 use Rattle.theory.specs.Monitor.{Monitor, monitorability}
+use Rattle.theory.specs.Faults.{kinds}
 use Rattle.theory.specs.Extent.{Extent, number, missing}
 use Rattle.theory.specs.Computed.{distance}
 use Rattle.basics.specs.Refusals.{refusal}
 use Rattle.monitor.specs.Format.{monitorOf}
 use Rattle.monitor.specs.Questions.{judgeAnswer, question13}
-use Rattle.immunity.specs.declared.LinkCard.{LinkCard}
+use Rattle.immunity.specs.declared.Column.{Column}
 use Rattle.immunity.specs.declared.Finding.{Finding}
-use Rattle.collection.specs.Contents.{ruleOf, bodyOf}
 use Rattle.lines.specs.Text.{ascii, decimal}
 use Rattle.lines.specs.declared.Line.{Line}
 
--- each field behind a space, and a line feed at the end
-abbrev pub fieldsBehind : List (List ℕ) → List ℕ
-fieldsBehind [] = ascii "\n"
-fieldsBehind (field ∷ fields) = ascii " " ++ field ++ fieldsBehind fields
+-- fields with a space before each, and what stands behind them
+abbrev pub spaced : List (List ℕ) → List ℕ → List ℕ
+spaced [] rest = rest
+spaced (field ∷ fields) rest = ascii " " ++ field ++ spaced fields rest
 
 -- a line: its fields, a space between two, and a line feed
 abbrev pub lineText : List ℕ → List (List ℕ) → List ℕ
-lineText first fields = first ++ fieldsBehind fields
+lineText first fields = first ++ spaced fields (ascii "\n")
 
 -- the word for a monitorability: "as numbers these four are 0 to 3 in that order"
 abbrev pub monitorabilityText : ℕ → List ℕ
-monitorabilityText m = cond (eqb m 0) (ascii "pos") (cond (eqb m 1) (ascii "neg") (cond (eqb m 2) (ascii "both") (ascii "none")))
+monitorabilityText m =
+    cond (eqb m 0) (ascii "pos") (cond (eqb m 1) (ascii "neg") (cond (eqb m 2) (ascii "both") (ascii "none")))
 
 -- a distance, "`-` for immune"
 abbrev pub distanceText : Extent → List ℕ
 distanceText missing = ascii "-"
 distanceText (number l) = decimal l
 
--- "The fields are rule number, n, monitorability and four distances under reading 3": loss, corruption, repeat, swap
+-- "four distances under reading 3", of each fault alone in the written order
+abbrev pub distanceTexts : Monitor → List (List ℕ)
+distanceTexts m = each kinds (λ c. distanceText (distance m 3 (2 ^ c)) ∷ [])
+
+-- "The fields are rule number, n, monitorability and four distances under reading 3"
 abbrev pub cardLine : ℕ → Monitor → List ℕ
-cardLine rule m = lineText (decimal rule) (decimal (m .automaton .states) ∷ monitorabilityText (monitorability m) ∷ distanceText (distance m 3 1) ∷ distanceText (distance m 3 2) ∷ distanceText (distance m 3 4) ∷ distanceText (distance m 3 8) ∷ [])
+cardLine rule m =
+    lineText (decimal rule)
+    (decimal (m .automaton .states) ∷ monitorabilityText (monitorability m) ∷ distanceTexts m)
 
 -- "or rule number, the word `refused`, and number and place of the body's refusal"
 abbrev pub refusalLine : ℕ → ℕ → ℕ → List ℕ
@@ -50,16 +58,13 @@ judgedLine rule (refused code place) m = refusalLine rule code place
 judgedLine rule (answered values) m = cardLine rule m
 
 -- the line of a rule and its body
-abbrev pub ruleLine : ℕ → ℕ → List ℕ → List ℕ
+unfoldable pub ruleLine : ℕ → ℕ → List ℕ → List ℕ
 ruleLine limit rule body = judgedLine rule (judgeAnswer limit body) (monitorOf body)
 
--- the line of entry i
-unfoldable pub entryLine : ℕ → List ℕ → ℕ → List ℕ
-entryLine limit file i = ruleLine limit (ruleOf file i) (bodyOf file i)
-
 -- writing a line asks 13 and answers its length
-unfoldable pub lineAnswer : ℕ → List ℕ → ℕ → ℕ → Answer
-lineAnswer limit file i room = asks (question13 (length (entryLine limit file i)) room ∷ []) (length (entryLine limit file i) ∷ [])
+unfoldable pub lineAnswer : ℕ → ℕ → List ℕ → ℕ → Answer
+lineAnswer limit rule body room =
+    asks (question13 (length (ruleLine limit rule body)) room ∷ []) (length (ruleLine limit rule body) ∷ [])
 
 -- 13 and its place, or the length of the line
 abbrev pub lined : Line → Answer
@@ -78,12 +83,17 @@ pub record Put (text before : List ℕ) (at : ℕ) (after : List ℕ) (to : ℕ)
   pub holds : take to after ≡ take at before ++ text
   pub same : length after ≡ length before
 
--- the distance of a finding, `-` if it has none
+-- the distance of a finding, `-` for immune; a finding that is a refusal is told apart from both
 abbrev pub findingText : Finding → List ℕ
-findingText (Finding.Refused r) = ascii "-"
+findingText (Finding.Refused r) = ascii "refused"
 findingText Finding.Immune = ascii "-"
 findingText (Finding.Vulnerable w) = decimal (w .distance)
 
--- the line of a rule with a card
-abbrev pub shownLine : ℕ → LinkCard → List ℕ
-shownLine rule c = lineText (decimal rule) (decimal (c .states) ∷ monitorabilityText (c .monitorability) ∷ findingText (c .loss) ∷ findingText (c .corruption) ∷ findingText (c .repeat) ∷ findingText (c .swap) ∷ [])
+-- the texts of columns, one after the other
+abbrev pub columnTexts : List Column → List (List ℕ)
+columnTexts [] = []
+columnTexts (column ∷ columns) = findingText (column .finding) ∷ columnTexts columns
+
+-- the line of a rule with n states, the monitorability y and these columns
+abbrev pub shownLine : ℕ → ℕ → ℕ → List Column → List ℕ
+shownLine rule n y columns = lineText (decimal rule) (decimal n ∷ monitorabilityText y ∷ columnTexts columns)

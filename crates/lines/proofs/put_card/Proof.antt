@@ -1,6 +1,6 @@
 -- `put_card` meets its contract.
 use borrow.Author.Needs.{needs}
-use Rattle.lines.proofs.Puts.{then}
+use Rattle.lines.proofs.Puts.{then, line-of}
 use Rattle.lines.proofs.put_card.Statement.{statement}
 use Rattle.lines.proofs.put_card.Tie as tie
 
@@ -13,17 +13,8 @@ put-figure-requires c κs = search needs
 put-monitorability-requires : tie.Need-put-monitorability-requires
 put-monitorability-requires c κs = search needs
 
-put-distance-requires : tie.Need-put-distance-requires
-put-distance-requires c κs = search needs
-
-put-distance-requires-2 : tie.Need-put-distance-requires-2
-put-distance-requires-2 c κs = search needs
-
-put-distance-requires-3 : tie.Need-put-distance-requires-3
-put-distance-requires-3 c κs = search needs
-
-put-distance-requires-4 : tie.Need-put-distance-requires-4
-put-distance-requires-4 c κs = search needs
+put-columns-requires : tie.Need-put-columns-requires
+put-columns-requires c κs = search needs
 
 slice-aggregate-put : tie.Need-slice-aggregate-put
 slice-aggregate-put c = search needs
@@ -35,7 +26,10 @@ same-length : tie.Need-same-length
 same-length c = search needs
 
 returns : tie.Need-returns
-returns c = then (c .before .before .before .before .before .before .before .before .before .before .before .before .before .before .before .before .before .before .before .before .before .before .before .before .before .before .before .before .before .before .before .put-number .ensures .0) (then (c .before .before .before .before .before .before .before .before .before .before .before .before .before .before .before .before .before .before .before .before .before .before .before .before .before .before .before .put-figure .ensures .0) (then (c .before .before .before .before .before .before .before .before .before .before .before .before .before .before .before .before .before .before .before .before .before .before .before .put-monitorability .ensures .0) (then (c .before .before .before .before .before .before .before .before .before .before .before .before .before .before .before .before .before .before .before .put-distance .ensures .0) (then (c .before .before .before .before .before .before .before .before .before .before .before .before .before .before .before .put-distance2 .ensures .0) (then (c .before .before .before .before .before .before .before .before .before .before .before .put-distance3 .ensures .0) (then (c .before .before .before .before .before .before .before .put-distance4 .ensures .0) (c .before .before .put .ensures)))))))
+returns c =
+    let s = c .before .before .before .before .before .before .before .before .before .before .before .before .before .before .before .before .before .before .before .before .before .before in
+    let front = then (c .before .before .before .before .before .before .before .before .before .before .before .before .before .before .before .before .before .before .before .put-number .ensures .0) (then (c .before .before .before .before .before .before .before .before .before .before .before .before .before .before .before .put-figure .ensures .0) (c .before .before .before .before .before .before .before .before .before .before .before .put-monitorability .ensures .0)) in
+    line-of (s .args .rule) (s .args .states) (s .args .monitorability) (s .args .columns) front (then (c .before .before .before .before .before .before .before .put-columns .ensures .0) (c .before .before .put .ensures))
 
 pub put-card-spec : {M : Type 1} → statement M
 put-card-spec =
@@ -44,10 +38,7 @@ put-card-spec =
     put-number-requires
     put-figure-requires
     put-monitorability-requires
-    put-distance-requires
-    put-distance-requires-2
-    put-distance-requires-3
-    put-distance-requires-4
+    put-columns-requires
     slice-aggregate-put
     put-requires
     same-length

@@ -1,24 +1,22 @@
 -- `put_distance` meets its contract.
-use native.Mathlib.Omega.{arith}
 use borrow.Author.Needs.{needs}
-use Rattle.lines.proofs.Words.{text-put, immune-word}
+use Rattle.lines.proofs.Words.{not-vulnerable}
 use Rattle.lines.proofs.put_distance.Statement.{statement}
 use Rattle.lines.proofs.put_distance.Tie as tie
 
 enum-known-finding : tie.Need-enum-known-finding
 enum-known-finding c = search needs
 
-slice-aggregate-put : tie.Need-slice-aggregate-put
-slice-aggregate-put c = search needs
-
-put-requires : tie.Need-put-requires
-put-requires c κs = search needs
+put-no-distance-requires : tie.Need-put-no-distance-requires
+put-no-distance-requires c κs =
+    let s = c .before .before .before in
+    (s .pre, not-vulnerable (s .args .finding) (c .before .match .keys2))
 
 same-length : tie.Need-same-length
 same-length c = search needs
 
 returns : tie.Need-returns
-returns c = text-put 21 (immune-word (c .before .before .before .before .before .before .before .args .finding) (c .before .before .before .before .before .match .keys2)) (omega arith) (c .before .before .put .ensures)
+returns c = search needs
 
 put-figure-requires : tie.Need-put-figure-requires
 put-figure-requires c κs = search needs
@@ -34,8 +32,7 @@ put-distance-spec =
     tie.close
     (tie.spec
     enum-known-finding
-    slice-aggregate-put
-    put-requires
+    put-no-distance-requires
     same-length
     returns
     put-figure-requires
