@@ -19,7 +19,8 @@ unfolding valuesOf
 valuesOf-same e = ap valuesOf e
 
 -- a refusal by the first list is the answer, whatever would be asked after it
-pub asks-refused : (qs more : List Question) (values given : List ℕ) {number place : ℕ} → asks qs given ≡ refused number place → asks (qs ++ more) values ≡ refused number place
+pub asks-refused : (qs more : List Question) (values given : List ℕ) {number place : ℕ} → asks qs given ≡ refused number place
+    → asks (qs ++ more) values ≡ refused number place
 asks-refused [] more values given e = absurd (let z : _≡_ {A = ℕ} 0 1 = cc in omega arith)
 asks-refused (q ∷ qs) more values given {number} {place} e = go (q .yes) e (asks-refused qs more values given)
   where
@@ -45,7 +46,8 @@ pub asks-values : (qs : List Question) (values : List ℕ) {given : List ℕ} �
 asks-values [] values e = valuesOf-same e
 asks-values (q ∷ qs) values {given} e = go (q .yes) e (asks-values qs values)
   where
-    go : (b : Bool) → cond b (asks qs values) (refused (q .number) (q .place)) ≡ answered given → (asks qs values ≡ answered given → values ≡ given) → values ≡ given
+    go : (b : Bool) → cond b (asks qs values) (refused (q .number) (q .place)) ≡ answered given → (asks qs values ≡ answered given → values ≡ given)
+        → values ≡ given
     go true h rest = rest h
     go false h rest = absurd (never h)
 
@@ -58,7 +60,8 @@ asks-yes q qs given e = go (q .yes) refl e
     go false p h = absurd (never h)
 
 -- a list of questions without a no has none in its first part and none in its second
-pub asks-both : (qs more : List Question) (given : List ℕ) → asks (qs ++ more) given ≡ answered given → (asks qs given ≡ answered given) × (asks more given ≡ answered given)
+pub asks-both : (qs more : List Question) (given : List ℕ) → asks (qs ++ more) given ≡ answered given
+    → (asks qs given ≡ answered given) × (asks more given ≡ answered given)
 asks-both [] more given e = (refl, e)
 asks-both (q ∷ qs) more given e =
     let y = asks-yes q (qs ++ more) given e in

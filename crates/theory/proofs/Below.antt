@@ -66,7 +66,8 @@ pub any-at : (n : ℕ) (f : ℕ → Bool) (i : ℕ) → i < n → f i ≡ true �
 unfolding any
 any-at zero f i l e = absurd (not-suc-le-zero l)
 any-at (suc n) f i l e =
-    ⊎-elim (λ q. or-left (f n) (any n f) (subst (λ (x : ℕ). f x ≡ true) q e)) (λ s. or-right (f n) (any n f) (any-at n f i s e)) (eq-or-lt-of-le (le-of-suc-le-suc l))
+    ⊎-elim (λ q. or-left (f n) (any n f) (subst (λ (x : ℕ). f x ≡ true) q e)) (λ s. or-right (f n) (any n f) (any-at n f i s e))
+    (eq-or-lt-of-le (le-of-suc-le-suc l))
 
 pub any-find : (n : ℕ) (f : ℕ → Bool) → any n f ≡ true → (i : ℕ) × (i < n) × (f i ≡ true)
 unfolding any
@@ -222,7 +223,8 @@ unfolding first
 first-here f a zero h = absurd (omega arith)
 first-here f a (suc c) h = go (f a) refl h (first-here f (suc a) c)
   where
-    go : (b : Bool) → f a ≡ b → cond b a (first f (suc a) c) < a + suc c → (first f (suc a) c < suc a + c → f (first f (suc a) c) ≡ true) → f (cond b a (first f (suc a) c)) ≡ true
+    go : (b : Bool) → f a ≡ b → cond b a (first f (suc a) c) < a + suc c → (first f (suc a) c < suc a + c → f (first f (suc a) c) ≡ true)
+        → f (cond b a (first f (suc a) c)) ≡ true
     go true e g next = e
     go false e g next = next (omega arith)
 

@@ -77,19 +77,5 @@ returns c =
 pub write-apart-spec : {M : Type 1} → statement M
 write-apart-spec =
     tie.close
-    (tie.spec
-    Inv-loop
-    μ-loop
-    entry-at-requires
-    loop-holds
-    sub-left
-    nearer-by-requires
-    cast-area
-    slice-write-area
-    successor-requires
-    successor-requires-2
-    add-i
-    loop-less
-    loop-again
-    same-length
-    returns)
+    (tie.spec Inv-loop μ-loop entry-at-requires loop-holds sub-left nearer-by-requires cast-area slice-write-area successor-requires
+    successor-requires-2 add-i loop-less loop-again same-length returns)
