@@ -41,7 +41,8 @@ returns : tie.Need-returns Inv-loop μ-loop
 returns c =
     let a = c .before .before .before .before .before .before .before .args in
     within-here (automatonOf (a .n) (a .k) (a .nexts .now)) (a .square .now) (a .r) (a .p) (a .q) (c .before .before .before .before .before .loop .a)
-    (c .before .before .before .successor .ensures .0) (c .before .before .successor2 .ensures .0) (c .if1 .taken) (c .before .before .before .before .loop-test .taken)
+    (c .before .before .before .successor .ensures .0) (c .before .before .successor2 .ensures .0) (c .if1 .taken)
+    (c .before .before .before .before .loop-test .taken)
 
 add-a : tie.Need-add-a Inv-loop μ-loop
 add-a c = search needs
@@ -66,5 +67,5 @@ returns-2 c =
 
 pub leads-within-spec : {M : Type 1} → statement M
 leads-within-spec =
-    tie.close
-    (tie.spec Inv-loop μ-loop loop-holds successor-requires successor-requires-2 mul-if1 add-if1 mul-if1-2 element-copy-out-if1 returns add-a loop-less loop-again returns-2)
+    tie.close (tie.spec Inv-loop μ-loop loop-holds successor-requires successor-requires-2 mul-if1 add-if1 mul-if1-2 element-copy-out-if1 returns add-a
+    loop-less loop-again returns-2)
