@@ -39,8 +39,9 @@ module _ (g : Automaton) (q a : ℕ) where
 module _ (g : Automaton) (f : ℕ → Bool) (q : ℕ) where
   pub widen-old : {b : Bool} → b ≡ f q → b ≡ true → (p : ℕ) → f p ≡ widened g f q p
   widen-old h t p =
+      let new = any (g .symbols) (leadsInto g f q) in
       both-ways (or-left (f p) _)
-      (λ e. ⊎-elim (λ o. o) (λ n. ap f (eqb-true p q (and-left (eqb p q) (any (g .symbols) (leadsInto g f q)) n)) ∙ sym h ∙ t) (or-cases (f p) (eqb p q && any (g .symbols) (leadsInto g f q)) e))
+      (λ e. ⊎-elim (λ o. o) (λ n. ap f (eqb-true p q (and-left (eqb p q) new n)) ∙ sym h ∙ t) (or-cases (f p) (eqb p q && new) e))
 
   pub widen-new : (limit : ℕ) (new : ℕ → Bool) {b : Bool} → q < limit → b ≡ any (g .symbols) (leadsInto g f q) → b ≡ true
       → ((p : ℕ) → new p ≡ (f p || (eqb p q && ltb q limit))) → (p : ℕ) → new p ≡ widened g f q p
