@@ -1,7 +1,7 @@
 // A collection of bodies: judging its contents, and an entry's rule number and body.
 use basics::Refusal;
 ghost use mathlib.Core.Path.{_≡_};
-ghost use Prim.Native.Nat.{_≤_, _<_};
+ghost use Prim.Native.Nat.{_<_};
 ghost use Rattle.theory.specs.Answer.{Answer};
 ghost use Rattle.collection.specs.Contents.{numberAt, entryOf, offsetOf, lengthOf, ruleOf, bodyOf, startOfBody};
 ghost use Rattle.collection.specs.Contents.{rises as Contents·rises, follows as Contents·follows};

@@ -1,10 +1,10 @@
 -- One pair, one row and one round of the search, and what holds when a round adds nothing.
-use mathlib.Core.Path.{_≡_, refl, sym, ap, _∙_, subst}
+use mathlib.Core.Path.{_≡_, refl, sym, _∙_, subst}
 use mathlib.Core.Bool.{Bool, true, false, cond, _&&_, _||_}
 use mathlib.Core.List.{List}
 use mathlib.Core.Logic.{_⊎_, inl, inr, ⊎-elim}
 use Prim.Native.Nat.{ℕ, zero, suc, _+_, _*_, _≤_, _<_}
-use native.Mathlib.Nat.{le-refl, le-antisymm, mul-le-mul}
+use native.Mathlib.Nat.{le-refl, mul-le-mul}
 use native.Mathlib.Numerals.{add-one}
 use native.Mathlib.Omega.{arith}
 use lib.Dec.{eqb, leb, eqb·suc-zero, leb·suc-zero}
@@ -15,7 +15,7 @@ use Rattle.theory.specs.Automaton.{Automaton, Closed}
 use Rattle.theory.specs.Monitor.{stateLimit}
 use Rattle.theory.specs.Pairs.{Tells, told}
 use Rattle.theory.specs.Extent.{Shortest}
-use Rattle.theory.proofs.Below.{clash, lt-or-le, or-right, and-left, and-right, any-at, any-same, any-more}
+use Rattle.theory.proofs.Below.{clash, lt-or-le, or-right, and-left, and-right, any-same}
 use Rattle.theory.proofs.Pairs.{onward, told-sound, told-complete, told-more, told-up, still-ever, told-settled, tells-same}
 use Rattle.pairs.specs.Square.{never, squareSize, place, entry, stored, Noted, Squared, New, Rounds, apartAtOnce, leadsWithin, adds, Fresh, Stage}
 use Rattle.pairs.specs.Square.{Midway}
@@ -28,15 +28,8 @@ module _ (g : Automaton) (d : List ℕ) (r p q : ℕ) where
   abbrev pub within : ℕ → Bool
   within a = leb (entry d (g .next p a) (g .next q a)) r
 
-  module _ (a : ℕ) {x y : ℕ} (ex : x ≡ g .next p a) (ey : y ≡ g .next q a) where
-    pub within-here : entry d x y ≤ r → a < g .symbols → true ≡ leadsWithin g d r p q
-    within-here h l = sym (any-at (g .symbols) within a l (rw (← ex, ← ey) (le-leb (entry d x y) r h)))
-
-    pub within-turn : r < entry d x y → false ≡ any a within → false ≡ any (a + 1) within
-    within-turn h o = sym (any-more a within ∙ rw (← o, ← ex, ← ey) (lt-leb (entry d x y) r h))
-
-  pub within-end : {a : ℕ} → a ≤ g .symbols → g .symbols ≤ a → any a within ≡ leadsWithin g d r p q
-  within-end l h = ap (λ (x : ℕ). any x within) (le-antisymm l h)
+  pub within-as : {a x y : ℕ} {b : Bool} → x ≡ g .next p a → y ≡ g .next q a → leb (entry d x y) r ≡ b → within a ≡ b
+  within-as ex ey h = rw (← ex, ← ey) h
 
 -- ---- one pair
 

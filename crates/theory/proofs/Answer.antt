@@ -30,34 +30,25 @@ asks-refused (q ∷ qs) more values given {number} {place} e = go (q .yes) e (as
     go true h rest = rest h
     go false h rest = h
 
+-- every question of a list without a no was answered yes
+pub asks-yes : (q : Question) (qs : List Question) (values : List ℕ) {given : List ℕ} → asks (q ∷ qs) values ≡ answered given
+    → (q .yes ≡ true) × (asks qs values ≡ answered given)
+asks-yes q qs values {given} e = go (q .yes) refl e
+  where
+    go : (b : Bool) → q .yes ≡ b → cond b (asks qs values) (refused (q .number) (q .place)) ≡ answered given
+        → (q .yes ≡ true) × (asks qs values ≡ answered given)
+    go true p h = (p, h)
+    go false p h = absurd (never h)
+
 -- after a first list without a no, the second list decides
 pub asks-passed : (qs more : List Question) (values given : List ℕ) → asks qs given ≡ answered given → asks (qs ++ more) values ≡ asks more values
 asks-passed [] more values given e = refl
-asks-passed (q ∷ qs) more values given e = go (q .yes) e (asks-passed qs more values given)
-  where
-    go : (b : Bool) → cond b (asks qs given) (refused (q .number) (q .place)) ≡ answered given
-        → (asks qs given ≡ answered given → asks (qs ++ more) values ≡ asks more values)
-        → cond b (asks (qs ++ more) values) (refused (q .number) (q .place)) ≡ asks more values
-    go true h rest = rest h
-    go false h rest = absurd (never h)
+asks-passed (q ∷ qs) more values given e = (let y = asks-yes q qs given e in rw (y .0) (asks-passed qs more values given (y .1)))
 
 -- what is answered are the values
 pub asks-values : (qs : List Question) (values : List ℕ) {given : List ℕ} → asks qs values ≡ answered given → values ≡ given
 asks-values [] values e = valuesOf-same e
-asks-values (q ∷ qs) values {given} e = go (q .yes) e (asks-values qs values)
-  where
-    go : (b : Bool) → cond b (asks qs values) (refused (q .number) (q .place)) ≡ answered given → (asks qs values ≡ answered given → values ≡ given)
-        → values ≡ given
-    go true h rest = rest h
-    go false h rest = absurd (never h)
-
--- every question of a list without a no was answered yes
-pub asks-yes : (q : Question) (qs : List Question) (given : List ℕ) → asks (q ∷ qs) given ≡ answered given → (q .yes ≡ true) × (asks qs given ≡ answered given)
-asks-yes q qs given e = go (q .yes) refl e
-  where
-    go : (b : Bool) → q .yes ≡ b → cond b (asks qs given) (refused (q .number) (q .place)) ≡ answered given → (q .yes ≡ true) × (asks qs given ≡ answered given)
-    go true p h = (p, h)
-    go false p h = absurd (never h)
+asks-values (q ∷ qs) values e = asks-values qs values (asks-yes q qs values e .1)
 
 -- a list of questions without a no has none in its first part and none in its second
 pub asks-both : (qs more : List Question) (given : List ℕ) → asks (qs ++ more) given ≡ answered given

@@ -1,27 +1,27 @@
 -- Chains of faults: one fault decides immunity; two sets together; any number of faults without repetition; six classes against three marks.
 use mathlib.Core.Path.{_≡_, refl, sym, ap, _∙_, subst}
 use mathlib.Core.Bool.{Bool, true, false, not}
-use mathlib.Core.List.{List, [], _∷_, _++_}
+use mathlib.Core.List.{List, [], _∷_}
 use mathlib.Core.Logic.{_↔_, _⊎_, inl, inr, ⊎-elim}
 use mathlib.Core.Option.{some}
-use Prim.Native.Nat.{ℕ, zero, suc, _+_, _≤_, _<_}
+use Prim.Native.Nat.{ℕ, zero, suc, _≤_, _<_}
 use native.Mathlib.Nat.{le-refl}
 use native.Mathlib.Omega.{arith}
 use lib.Dec.{eqb}
-use lib.ListN.{length, length-append, getD}
+use lib.ListN.{length, getD}
 use borrow.Author.Tests.{eqb-true, eqb-false, ne-eqb, not-true}
 use Rattle.theory.specs.Lists.{In}
 use Rattle.theory.specs.Automaton.{Automaton, Trace, run, leads}
 use Rattle.theory.specs.Monitor.{Monitor, WellFormed, classFrom, class, reading, marked}
 use Rattle.theory.specs.Faults.{FaultStep, holds, repetition, together}
-use Rattle.theory.specs.Series.{Series, sentTrace, receivedTrace, Precedes}
+use Rattle.theory.specs.Series.{Series, sentTrace, receivedTrace, Precedes, Valid}
 use Rattle.theory.specs.Extent.{number, missing, Shortest, smaller, AtMost}
 use Rattle.theory.specs.Distance.{Faulted, Joined, itself, forth, back, Chained, end, then, differ, reads, faultsOf, Harmed, HarmedBySeveral, Distance}
 use Rattle.theory.specs.Distance.{DistanceOfSeveral, Witness, FirstWitness}
 use Rattle.theory.specs.Computed.{firstWitness, distance}
 use Rattle.theory.proofs.Reach.{run-in}
 use Rattle.theory.proofs.Faults.{Good, steps-good, steps-shrink, steps-rise, of-either, first-of-two, second-of-two}
-use Rattle.theory.proofs.Witness.{sent-length, sent-trace, received-trace, First, first-harms, extent-exact}
+use Rattle.theory.proofs.Witness.{parts-length, sent-length, sent-trace, received-trace, First, first-harms, extent-exact}
 use Rattle.theory.proofs.Order.{precedes-not-itself, precedes-then}
 use Rattle.theory.proofs.Extent.{shortest-one, shortest-wider, shortest-same, shortest-either}
 
@@ -89,14 +89,9 @@ module _ (m : Monitor) (d : ℕ) where
     shrinks without {x} {y} f =
         let s = f .by in
         let r = steps-shrink set (g .symbols) without (s .fault) (f .valid .known) in
-        let a : length x ≡ length (s .before) + (length (s .fault .sent) + length (s .after)) = ap length (f .is-sent)
-        ∙ long (s .before) (s .fault .sent) (s .after) in
-        let b : length y ≡ length (s .before) + (length (s .fault .received) + length (s .after)) = ap length (f .is-received)
-        ∙ long (s .before) (s .fault .received) (s .after) in
+        let a = ap length (f .is-sent) ∙ parts-length (s .before) (s .fault .sent) (s .after) in
+        let b = ap length (f .is-received) ∙ parts-length (s .before) (s .fault .received) (s .after) in
         omega (arith, r, a, b)
-      where
-        long : (u v w : List ℕ) → length (u ++ (v ++ w)) ≡ length u + (length v + length w)
-        long u v w = length-append u (v ++ w) ∙ ap (λ (l : ℕ). length u + l) (length-append v w)
 
     -- some single fault of a chain changes the reading if the whole chain does; the trace it strikes is no longer than the first one
     link : holds set repetition ≡ false → {x y : List ℕ} → Chained g F x y → differ m d (run g (m .start) x) (run g (m .start) y) ≡ true
@@ -119,38 +114,23 @@ module _ (m : Monitor) (d : ℕ) where
 
   -- ---- two sets
 
-  over-faults : (F G : List FaultStep) → ((s : FaultStep) → In s F → In s G) → {x y : List ℕ} → Faulted g F x y → Faulted g G x y
-  over-faults F G over f = record {
-    by = f .by;
-    valid = record { before-trace = f .valid .before-trace; known = over (f .by .fault) (f .valid .known); after-trace = f .valid .after-trace };
-    is-sent = f .is-sent;
-    is-received = f .is-received;
-  }
-
-  over-sets : (A B : ℕ) → ((s : FaultStep) → In s (faultsOf m A) → In s (faultsOf m B)) → (w : List ℕ) → Harmed m d A w → Harmed m d B w
-  over-sets A B over w h = record { received = h .received; fault = over-faults (faultsOf m A) (faultsOf m B) over (h .fault); differs = h .differs }
+  -- a trace harmed by a fault step of one set is harmed by every set that has the step
+  step-of-both : (A B : ℕ) (w : List ℕ) (h : Harmed m d A w) → In (h .fault .by .fault) (faultsOf m B) → Harmed m d B w
+  step-of-both A B w h i =
+      let f = h .fault in
+      let valid : Valid g (faultsOf m B) (f .by) = record { before-trace = f .valid .before-trace; known = i; after-trace = f .valid .after-trace } in
+      record { received = h .received; fault = record { by = f .by; valid = valid; is-sent = f .is-sent; is-received = f .is-received }; differs = h .differs }
 
   pub harmed-either : (A B : ℕ) (w : List ℕ) → Harmed m d (together A B) w → Harmed m d A w ⊎ Harmed m d B w
   harmed-either A B w h =
-      ⊎-elim (λ i. inl (again A i)) (λ i. inr (again B i)) (of-either A B (g .symbols) (h .fault .by .fault) (h .fault .valid .known))
-    where
-      again : (C : ℕ) → In (h .fault .by .fault) (faultsOf m C) → Harmed m d C w
-      again C i = record {
-        received = h .received;
-        fault = record {
-          by = h .fault .by;
-          valid = record { before-trace = h .fault .valid .before-trace; known = i; after-trace = h .fault .valid .after-trace };
-          is-sent = h .fault .is-sent;
-          is-received = h .fault .is-received;
-        };
-        differs = h .differs;
-      }
+      ⊎-elim (λ i. inl (step-of-both (together A B) A w h i)) (λ i. inr (step-of-both (together A B) B w h i))
+      (of-either A B (g .symbols) (h .fault .by .fault) (h .fault .valid .known))
 
   pub harmed-first : (A B : ℕ) (w : List ℕ) → Harmed m d A w → Harmed m d (together A B) w
-  harmed-first A B = over-sets A (together A B) (λ s. first-of-two A B (g .symbols) s)
+  harmed-first A B w h = step-of-both A (together A B) w h (first-of-two A B (g .symbols) (h .fault .by .fault) (h .fault .valid .known))
 
   pub harmed-second : (A B : ℕ) (w : List ℕ) → Harmed m d B w → Harmed m d (together A B) w
-  harmed-second A B = over-sets B (together A B) (λ s. second-of-two A B (g .symbols) s)
+  harmed-second A B w h = step-of-both B (together A B) w h (second-of-two A B (g .symbols) (h .fault .by .fault) (h .fault .valid .known))
 
 -- ---- six against three
 

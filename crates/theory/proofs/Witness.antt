@@ -31,8 +31,11 @@ use Rattle.theory.proofs.Series.{Long, series-in, in-series, series-ris
 pub run-parts : (g : Automaton) (q : ℕ) (x u y : List ℕ) → run g q (x ++ (u ++ y)) ≡ run g (run g (run g q x) u) y
 run-parts g q x u y = run-append g q x (u ++ y) ∙ run-append g (run g q x) u y
 
+pub parts-length : (u v w : List ℕ) → length (u ++ (v ++ w)) ≡ length u + (length v + length w)
+parts-length u v w = length-append u (v ++ w) ∙ ap (λ (l : ℕ). length u + l) (length-append v w)
+
 pub sent-length : (s : Series) → length (sentTrace s) ≡ length (s .before) + (length (s .fault .sent) + length (s .after))
-sent-length s = length-append (s .before) (s .fault .sent ++ s .after) ∙ ap (λ (l : ℕ). length (s .before) + l) (length-append (s .fault .sent) (s .after))
+sent-length s = parts-length (s .before) (s .fault .sent) (s .after)
 
 -- a fault step strikes: it takes some state reached from q to two states that some trace tells apart
 abbrev pub strikesAt : Automaton → (ℕ → ℕ → Bool) → ℕ → FaultStep → ℕ → Bool
@@ -228,13 +231,14 @@ module _ (g : Automaton) (ends : ℕ → ℕ → Bool) (faults : List FaultStep)
 
 -- the two traces of a valid series are traces
 module _ (g : Automaton) (faults : List FaultStep) (good : (s : FaultStep) → In s faults → Good g s) (s : Series) (v : Valid g faults s) where
+  around : (x : List ℕ) → Trace g x → Trace g (s .before ++ (x ++ s .after))
+  around x t = trace-append g (s .before) (x ++ s .after) (v .before-trace) (trace-append g x (s .after) t (v .after-trace))
+
   pub sent-trace : Trace g (sentTrace s)
-  sent-trace = trace-append g (s .before) (s .fault .sent ++ s .after) (v .before-trace)
-      (trace-append g (s .fault .sent) (s .after) (good (s .fault) (v .known) .sent-trace) (v .after-trace))
+  sent-trace = around (s .fault .sent) (good (s .fault) (v .known) .sent-trace)
 
   pub received-trace : Trace g (receivedTrace s)
-  received-trace = trace-append g (s .before) (s .fault .received ++ s .after) (v .before-trace)
-      (trace-append g (s .fault .received) (s .after) (good (s .fault) (v .known) .received-trace) (v .after-trace))
+  received-trace = around (s .fault .received) (good (s .fault) (v .known) .received-trace)
 
 -- only the test on states matters
 pub harmful-same : (g : Automaton) (ends h : ℕ → ℕ → Bool) (faults : List FaultStep) → Closed g → ((s : FaultStep) → In s faults → Good g s)

@@ -1,5 +1,4 @@
 -- `passes` meets its contract.
-use mathlib.Core.Path.{_∙_}
 use borrow.Author.Needs.{needs}
 use Rattle.collection.proofs.passes.Statement.{statement}
 use Rattle.collection.proofs.passes.Tie as tie
