@@ -1,5 +1,5 @@
 -- Asking two lists of questions one after the other, and what an answer does to the area lent.
-use mathlib.Core.Path.{_≡_, refl, ap}
+use mathlib.Core.Path.{_≡_, refl}
 use mathlib.Core.Bool.{Bool, true, false, cond}
 use mathlib.Core.List.{List, [], _∷_, _++_}
 use Prim.Native.Nat.{ℕ}
@@ -9,14 +9,6 @@ use Rattle.theory.specs.Answer.{Question, Answer, refused, answered, ask
 
 never : {number place : ℕ} {values : List ℕ} → refused number place ≡ answered values → ⊥
 never e = let z : _≡_ {A = ℕ} 0 1 = cc in omega arith
-
-valuesOf : Answer → List ℕ
-valuesOf (refused number place) = []
-valuesOf (answered values) = values
-
-valuesOf-same : {v w : List ℕ} → answered v ≡ answered w → v ≡ w
-unfolding valuesOf
-valuesOf-same e = ap valuesOf e
 
 -- a refusal by the first list is the answer, whatever would be asked after it
 pub asks-refused : (qs more : List Question) (values given : List ℕ) {number place : ℕ} → asks qs given ≡ refused number place
@@ -47,7 +39,7 @@ asks-passed (q ∷ qs) more values given e = (let y = asks-yes q qs given e in r
 
 -- what is answered are the values
 pub asks-values : (qs : List Question) (values : List ℕ) {given : List ℕ} → asks qs values ≡ answered given → values ≡ given
-asks-values [] values e = valuesOf-same e
+asks-values [] values e = cc
 asks-values (q ∷ qs) values e = asks-values qs values (asks-yes q qs values e .1)
 
 -- a list of questions without a no has none in its first part and none in its second

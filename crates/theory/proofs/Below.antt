@@ -2,7 +2,7 @@
 use mathlib.Core.Path.{_≡_, refl, sym, ap, _∙_, subst}
 use mathlib.Core.Bool.{Bool, true, false, cond, _&&_, _||_, true≢false, or-comm}
 use mathlib.Core.Logic.{_⊎_, inl, inr, ⊎-elim}
-use Prim.Native.Nat.{ℕ, zero, suc, _+_, _≤_, _<_}
+use Prim.Native.Nat.{ℕ, zero, suc, _+_, _≤_, _<_, suc-le-suc}
 use native.Mathlib.Nat.{le-refl, le-of-suc-le-suc, not-suc-le-zero, eq-or-lt-of-le, le-of-lt}
 use native.Mathlib.Numerals.{add-one}
 use native.Mathlib.Omega.{arith}
@@ -127,15 +127,10 @@ unfolding count
 count-more zero f g h x l e t = absurd (not-suc-le-zero l)
 count-more (suc n) f g h x l e t =
     ⊎-elim
-    (λ q. here (f n) (g n) (subst (λ (y : ℕ). f y ≡ false) q e) (subst (λ (y : ℕ). g y ≡ true) q t) (count-mono n f g (λ i s. h i (omega (arith, s)))))
+    (λ q. rw (subst (λ (y : ℕ). f y ≡ false) q e, subst (λ (y : ℕ). g y ≡ true) q t) (suc-le-suc (count-mono n f g (λ i s. h i (omega (arith, s))))))
     (λ s. there (f n) (g n) (h n (le-refl (suc n))) (count-more n f g (λ i r. h i (omega (arith, r))) x s e t))
     (eq-or-lt-of-le (le-of-suc-le-suc l))
   where
-    here : (a b : Bool) → a ≡ false → b ≡ true → count n f ≤ count n g → cond a (suc (count n f)) (count n f) < cond b (suc (count n g)) (count n g)
-    here true b p q m = absurd (clash refl p)
-    here false true p q m = omega arith
-    here false false p q m = absurd (clash q refl)
-
     there : (a b : Bool) → (a ≡ true → b ≡ true) → count n f < count n g → cond a (suc (count n f)) (count n f) < cond b (suc (count n g)) (count n g)
     there true true i m = omega arith
     there true false i m = absurd (clash (i refl) refl)

@@ -85,12 +85,7 @@ module _ {A : Type 0} where
     pub find-later : (xs ys : List A) → find f xs ≡ none → find f (xs ++ ys) ≡ find f ys
     unfolding find
     find-later [] ys e = refl
-    find-later (x ∷ xs) ys e = go (f x) e (find-later xs ys)
-      where
-        go : (b : Bool) → cond b (some x) (find f xs) ≡ none → (find f xs ≡ none → find f (xs ++ ys) ≡ find f ys)
-            → cond b (some x) (find f (xs ++ ys)) ≡ find f ys
-        go true h rest = absurd (no-some (sym h))
-        go false h rest = rest h
+    find-later (x ∷ xs) ys e = (let p = none-passes (x ∷ xs) e x (inl refl) in rw p (find-later xs ys (rw p at e)))
 
     pub find-here : (xs ys : List A) {x : A} → find f xs ≡ some x → find f (xs ++ ys) ≡ some x
     unfolding find
