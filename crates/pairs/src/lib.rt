@@ -33,7 +33,8 @@ fn blank() -> [u16; SQUARE_SIZE]
 
 // An entry as a number of symbols.
 fn wide(entry: u16) -> usize
-    ensures { λ r. ⌜ (r ≡ entry) × (r < 65536) ⌝ }
+    ensures { λ r. ⌜ (r ≡ entry)
+        × (r < 65536) ⌝ }
 {
     entry as usize
 }
