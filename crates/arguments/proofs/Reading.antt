@@ -46,11 +46,13 @@ next-digit : {text : List ℕ} {i n : ℕ} → Reads text i n → i < length tex
 unfolding areDigits
 next-digit {text} {i} r l = r .digits ∙ ap areDigits (next-byte text i l)
 
-next-value : {text : List ℕ} {i n : ℕ} → Reads text i n → i < length text → min (valueFrom 0 text) cap ≡ min (valueFrom (min (10 * n + (getD text i 0 - 48)) cap) (drop (i + 1) text)) cap
+next-value : {text : List ℕ} {i n : ℕ} → Reads text i n → i < length text
+    → min (valueFrom 0 text) cap ≡ min (valueFrom (min (10 * n + (getD text i 0 - 48)) cap) (drop (i + 1) text)) cap
 unfolding valueFrom
 next-value {text} {i} {n} r l = r .value ∙ ap (λ (t : List ℕ). min (valueFrom n t) cap) (next-byte text i l) ∙ capped cap _ (drop (i + 1) text)
 
-pub reads-digit : {text : List ℕ} {i n m : ℕ} → Reads text i n → i < length text → isDigit (getD text i 0) ≡ true → m ≡ min (10 * n + (getD text i 0 - 48)) cap → Reads text (i + 1) m
+pub reads-digit : {text : List ℕ} {i n m : ℕ} → Reads text i n → i < length text → isDigit (getD text i 0) ≡ true → m ≡ min (10 * n + (getD text i 0 - 48)) cap
+    → Reads text (i + 1) m
 reads-digit {text} {i} {n} {m} r l d e = record {
   within = omega arith;
   small = omega arith;

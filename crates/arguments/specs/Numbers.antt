@@ -25,6 +25,7 @@ valueFrom n (byte ∷ text) = valueFrom (10 * n + (byte - 48)) text
 abbrev pub cap : ℕ
 cap = 1000000000000000000
 
--- no number for the empty text and for one with another byte than a digit; else the smaller of the number that the digits stand for and the cap
+-- no number for the empty text and for one with another byte than a digit; else the smaller of the number that the
+-- digits stand for and the cap
 unfoldable pub decimalOf : List ℕ → Decimal
 decimalOf text = cond (areDigits text && ltb 0 (length text)) (Number (min (valueFrom 0 text) cap)) NotANumber

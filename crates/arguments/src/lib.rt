@@ -2,7 +2,8 @@
 ghost use mathlib.Core.Path.{_≡_};
 ghost use Rattle.arguments.specs.Numbers.{isDigit, decimalOf};
 
-// A greater number is answered as this one. No question accepts a number near it, and ten times it and a digit more fit a usize.
+// A greater number is answered as this one. No question accepts a number near it, and ten times it and a digit more fit
+// a usize.
 const CAP: usize = 1_000_000_000_000_000_000;
 
 // One byte more than the longest argument that Linux hands over.

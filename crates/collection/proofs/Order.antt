@@ -9,7 +9,7 @@ use lib.ListN.{length}
 use borrow.Author.Tests.{le-leb, lt-leb, eq-eqb, ne-eqb}
 use Rattle.theory.specs.Answer.{refused, answered, asks}
 use Rattle.theory.proofs.Below.{first-whole}
-use Rattle.collection.specs.Contents.{countOf, startOfBody, ruleOf, rises, follows, firstNo, testOf, question23, question24, question25, collectionAnswer}
+use Rattle.collection.specs.Contents.{countOf, startOfBody, ruleOf, rises, follows, firstNo, question23, question24, question25, collectionAnswer}
 
 module _ (file : List ℕ) where
   pub short : length file < 2 → collectionAnswer file ≡ refused 20 0
@@ -33,25 +33,35 @@ module _ (file : List ℕ) where
         unfolding collectionAnswer
         there = rw (← e, le-leb 2 (length file) l, le-leb c 512 m, le-leb (2 + 8 * c) (length file) t)
 
-        pub unsorted : {r : ℕ} → r ≡ firstNo (testOf file 23) c → r < c → collectionAnswer file ≡ refused 23 r
-        unsorted {r} f h = (let g : r ≡ firstNo (rises (ruleOf file)) (countOf file) = f ∙ ap (firstNo (rises (ruleOf file))) e in there ∙ rw (← g, ne-eqb r (countOf file) (λ q. omega (arith, e, h)), zero-add r))
+        pub unsorted : {r : ℕ} → r ≡ firstNo (rises (ruleOf file)) c → r < c → collectionAnswer file ≡ refused 23 r
+        unsorted {r} f h =
+            let g : r ≡ firstNo (rises (ruleOf file)) (countOf file) = f ∙ ap (firstNo (rises (ruleOf file))) e in
+            there ∙ rw (← g, ne-eqb r (countOf file) (λ q. omega (arith, e, h)), zero-add r)
 
-        module _ {r : ℕ} (f : r ≡ firstNo (testOf file 23) c) (g : c ≤ r) where
+        module _ {r : ℕ} (f : r ≡ firstNo (rises (ruleOf file)) c) (g : c ≤ r) where
           sorted : firstNo (rises (ruleOf file)) (countOf file) ≡ countOf file
           sorted = sym (ap (firstNo (rises (ruleOf file))) e) ∙ first-whole (λ i. not (rises (ruleOf file) i)) c f g ∙ e
 
-          pub misplaced : {s : ℕ} → s ≡ firstNo (testOf file 24) c → s < c → collectionAnswer file ≡ refused 24 s
+          pub misplaced : {s : ℕ} → s ≡ firstNo (follows file) c → s < c → collectionAnswer file ≡ refused 24 s
           misplaced {s} d h =
               let k : s ≡ firstNo (follows file) (countOf file) = d ∙ ap (firstNo (follows file)) e in
-              there ∙ rw (eq-eqb (firstNo (rises (ruleOf file)) (countOf file)) (countOf file) sorted, ← k, ne-eqb s (countOf file) (λ q. omega (arith, e, h)), zero-add s)
+              there ∙ rw (
+                eq-eqb (firstNo (rises (ruleOf file)) (countOf file)) (countOf file) sorted,
+                ← k,
+                ne-eqb s (countOf file) (λ q. omega (arith, e, h)),
+                zero-add s,
+              )
 
-          module _ {s : ℕ} (d : s ≡ firstNo (testOf file 24) c) (k : c ≤ s) where
+          module _ {s : ℕ} (d : s ≡ firstNo (follows file) c) (k : c ≤ s) where
             placed : firstNo (follows file) (countOf file) ≡ countOf file
             placed = sym (ap (firstNo (follows file)) e) ∙ first-whole (λ i. not (follows file i)) c d k ∙ e
 
             -- and the next two
             in-place : collectionAnswer file ≡ asks (question25 file ∷ []) (countOf file ∷ [])
-            in-place = there ∙ rw (eq-eqb (firstNo (rises (ruleOf file)) (countOf file)) (countOf file) sorted, eq-eqb (firstNo (follows file) (countOf file)) (countOf file) placed)
+            in-place = there ∙ rw (
+              eq-eqb (firstNo (rises (ruleOf file)) (countOf file)) (countOf file) sorted,
+              eq-eqb (firstNo (follows file) (countOf file)) (countOf file) placed,
+            )
 
             module _ {end : ℕ} (x : end ≡ startOfBody file c) where
               end-is : end ≡ startOfBody file (countOf file)

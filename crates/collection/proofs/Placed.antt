@@ -9,9 +9,10 @@ use lib.ListN.{length, length-take, length-drop}
 use borrow.Author.Tests.{eqb-true, not-false}
 use Rattle.theory.specs.Answer.{answered, asks}
 use Rattle.theory.proofs.Below.{first-none}
-use Rattle.theory.proofs.Answer.{asks-yes}
+use Rattle.theory.proofs.Answer.{asks-yes, asks-both}
 use Rattle.collection.proofs.Entries.{starts-later}
-use Rattle.collection.specs.Contents.{countOf, offsetOf, lengthOf, bodyOf, ruleOf, startOfBody, follows, firstNo, question20, question21, question22, question23, question24, question25, collectionQuestions, collectionAnswer}
+use Rattle.collection.specs.Contents.{countOf, offsetOf, lengthOf, bodyOf, ruleOf, startOfBody, follows, firstNo, question20, question21, question22}
+use Rattle.collection.specs.Contents.{question23, question24, question25, collectionQuestions, collectionAnswer}
 
 -- what holds of entry i: its body starts where it has to, ends in the file, and is all there
 pub record Placed (file : List ℕ) (i : ℕ) : Type 0 where
@@ -32,11 +33,8 @@ module _ (file : List ℕ) (accepted : collectionAnswer file ≡ answered (count
   ends : Ends
   ends =
       let v = countOf file ∷ [] in
-      let q₀ = asks-yes (question20 file) (question21 (countOf file) ∷ question22 file ∷ question23 (ruleOf file) (countOf file) ∷ question24 file ∷ question25 file ∷ []) v values in
-      let q₁ = asks-yes (question21 (countOf file)) (question22 file ∷ question23 (ruleOf file) (countOf file) ∷ question24 file ∷ question25 file ∷ []) v (q₀ .1) in
-      let q₂ = asks-yes (question22 file) (question23 (ruleOf file) (countOf file) ∷ question24 file ∷ question25 file ∷ []) v (q₁ .1) in
-      let q₃ = asks-yes (question23 (ruleOf file) (countOf file)) (question24 file ∷ question25 file ∷ []) v (q₂ .1) in
-      let q₄ = asks-yes (question24 file) (question25 file ∷ []) v (q₃ .1) in
+      let before = question20 file ∷ question21 (countOf file) ∷ question22 file ∷ question23 (ruleOf file) (countOf file) ∷ [] in
+      let q₄ = asks-yes (question24 file) (question25 file ∷ []) v (asks-both before (question24 file ∷ question25 file ∷ []) v values .1) in
       let q₅ = asks-yes (question25 file) [] v (q₄ .1) in
       record {
         four = eqb-true (firstNo (follows file) (countOf file)) (countOf file) (q₄ .0);
@@ -44,7 +42,9 @@ module _ (file : List ℕ) (accepted : collectionAnswer file ≡ answered (count
       }
 
   starts-at : (i : ℕ) → i < countOf file → offsetOf file i ≡ startOfBody file i
-  starts-at i h = eqb-true (offsetOf file i) (startOfBody file i) (not-false (follows file i) (first-none (λ j. not (follows file j)) 0 (countOf file) i (ends .four ∙ sym (zero-add (countOf file))) zero-le (omega (arith, h))))
+  starts-at i h =
+      let none = first-none (λ j. not (follows file j)) 0 (countOf file) i (ends .four ∙ sym (zero-add (countOf file))) zero-le (omega (arith, h)) in
+      eqb-true (offsetOf file i) (startOfBody file i) (not-false (follows file i) none)
 
   -- where body i ends, body i + 1 has to start
   next-start : (i : ℕ) → startOfBody file (i + 1) ≡ offsetOf file i + lengthOf file i
@@ -55,11 +55,12 @@ module _ (file : List ℕ) (accepted : collectionAnswer file ≡ answered (count
   -- no start lies behind the end of the file
   before-end : (d i : ℕ) → d + i ≡ countOf file → startOfBody file i ≤ length file
   before-end zero i e = le-of-eq (ap (startOfBody file) (sym (zero-add i) ∙ e) ∙ sym (ends .five))
-  before-end (suc d) i e = le-trans (le-of-eq (sym (starts-at i (omega (arith, e))))) (le-trans (le-add-right _ _) (le-trans (le-of-eq (sym (next-start i))) (before-end d (i + 1) (omega (arith, e)))))
+  before-end (suc d) i e = le-trans (le-of-eq (sym (starts-at i (omega (arith, e)))))
+      (le-trans (le-add-right _ _) (le-trans (le-of-eq (sym (next-start i))) (before-end d (i + 1) (omega (arith, e)))))
 
   pub bodies-placed : (i : ℕ) → i < countOf file → Placed file i
   bodies-placed i h =
-      let t : offsetOf file i + lengthOf file i ≤ length file = le-trans (le-of-eq (sym (next-start i))) (before-end (countOf file - (i + 1)) (i + 1) (omega (arith, h))) in
+      let t = le-trans (le-of-eq (sym (next-start i))) (before-end (countOf file - (i + 1)) (i + 1) (omega (arith, h))) in
       record { starts = starts-at i h; inside = t; whole = simp (length-take, length-drop) (min-left (offsetOf file i) (lengthOf file i) (length file) t) }
     where
       min-left : (a b c : ℕ) → a + b ≤ c → min b (c - a) ≡ b

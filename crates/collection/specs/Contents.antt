@@ -10,6 +10,8 @@ use Rattle.basics.specs.Refusals.{refusal}
 use Rattle.monitor.specs.Questions.{ofEach}
 use Rattle.collection.specs.declared.Collected.{Collected}
 use Rattle.collection.specs.declared.Collected.the-variants.{Accepted, Refused}
+use Rattle.collection.specs.declared.Test.{Test}
+use Rattle.collection.specs.declared.Test.the-variants.{RulesRise, BodiesFollow}
 
 -- "All numbers are least byte first.": the number of `width` bytes from a place on; what is not there counts as 0
 abbrev pub numberAt : ℕ → List ℕ → ℕ → ℕ
@@ -42,7 +44,8 @@ ruleOf file i = numberAt 2 (entryOf file i) 6
 abbrev pub bodyOf : List ℕ → ℕ → List ℕ
 bodyOf file i = take (lengthOf file i) (drop (offsetOf file i) file)
 
--- where body i has to start, as "the bodies follow in entry order without gaps": the first behind the contents, "each later one where the previous ends"; with i = c, where the file has to end
+-- where body i has to start, as "the bodies follow in entry order without gaps": the first behind the contents, "each
+-- later one where the previous ends"; with i = c, where the file has to end
 abbrev pub startOfBody : List ℕ → ℕ → ℕ
 startOfBody file i = cond (eqb i 0) (contentsEnd file) (offsetOf file (i - 1) + lengthOf file (i - 1))
 
@@ -58,7 +61,8 @@ question21 c = record { yes = leb c 512; number = 21; place = 0 }
 abbrev pub question22 : List ℕ → Question
 question22 file = record { yes = leb (contentsEnd file) (length file); number = 22; place = 0 }
 
--- the rule number of entry i is "greater than the one before"; the first has none before it. `rule` gives the rule number of each entry.
+-- the rule number of entry i is "greater than the one before"; the first has none before it. `rule` gives the rule
+-- number of each entry.
 abbrev pub rises : (ℕ → ℕ) → ℕ → Bool
 rises rule i = eqb i 0 || ltb (rule (i - 1)) (rule i)
 
@@ -84,7 +88,14 @@ question25 file = record { yes = eqb (length file) (startOfBody file (countOf fi
 
 -- in the written order: "23 is asked of all entries before 24"
 abbrev pub collectionQuestions : List ℕ → List Question
-collectionQuestions file = question20 file ∷ question21 (countOf file) ∷ question22 file ∷ question23 (ruleOf file) (countOf file) ∷ question24 file ∷ question25 file ∷ []
+collectionQuestions file =
+    question20 file
+    ∷ question21 (countOf file)
+    ∷ question22 file
+    ∷ question23 (ruleOf file) (countOf file)
+    ∷ question24 file
+    ∷ question25 file
+    ∷ []
 
 -- "An accepted collection answers c; a body at fault does not refuse it."
 unfoldable pub collectionAnswer : List ℕ → Answer
@@ -97,6 +108,7 @@ collected (Refused r) = refusal r
 
 -- ---- layers
 
--- the test of question 23, or else of 24
-abbrev pub testOf : List ℕ → ℕ → ℕ → Bool
-testOf file question i = cond (eqb question 23) (rises (ruleOf file) i) (follows file i)
+-- the test of question 23, and that of 24
+abbrev pub testOf : Test → List ℕ → ℕ → Bool
+testOf RulesRise file = rises (ruleOf file)
+testOf BodiesFollow file = follows file

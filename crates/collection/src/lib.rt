@@ -1,9 +1,11 @@
 // A collection of bodies: judging its contents, and an entry's rule number and body.
 use basics::Refusal;
 ghost use mathlib.Core.Path.{_≡_};
-ghost use Prim.Native.Nat.{_≤_, _<_};
+ghost use Prim.Native.Nat.{_<_};
 ghost use Rattle.theory.specs.Answer.{Answer};
-ghost use Rattle.collection.specs.Contents.{numberAt, countOf, entryOf, offsetOf, lengthOf, ruleOf, bodyOf, startOfBody, rises as Contents·rises, follows as Contents·follows, firstNo, testOf, collectionAnswer, collected};
+ghost use Rattle.collection.specs.Contents.{numberAt, entryOf, offsetOf, lengthOf, ruleOf, bodyOf, startOfBody};
+ghost use Rattle.collection.specs.Contents.{rises as Contents·rises, follows as Contents·follows};
+ghost use Rattle.collection.specs.Contents.{firstNo, testOf, collectionAnswer, collected};
 
 // The greatest number of entries.
 const ENTRY_LIMIT: usize = 512;
@@ -12,6 +14,12 @@ const ENTRY_LIMIT: usize = 512;
 pub enum Collected {
     Accepted { count: usize },
     Refused(Refusal),
+}
+
+// What an entry is asked: its rule number is greater than the one before, or its body starts where it has to.
+enum Test {
+    RulesRise,
+    BodiesFollow,
 }
 
 fn refused(number: usize, place: usize) -> Collected
@@ -23,7 +31,8 @@ fn refused(number: usize, place: usize) -> Collected
 // The number of two bytes from a place on.
 fn two_bytes_at(bytes: &[u8], at: usize) -> usize
     requires { ⌜ at < 8 ⌝ }
-    ensures { λ r. ⌜ (r ≡ numberAt 2 (now (bytes .entry)) at) × (r < 65536) ⌝ }
+    ensures { λ r. ⌜ (r ≡ numberAt 2 (now (bytes .entry)) at)
+        × (r < 65536) ⌝ }
 {
     basics::byte_at(bytes, at) + 256 * basics::byte_at(bytes, at + 1)
 }
@@ -40,7 +49,8 @@ fn entry(file: &[u8], i: usize) -> &[u8]
 
 // Where entry i says that its body starts.
 fn body_offset(file: &[u8], i: usize) -> usize
-    ensures { λ r. ⌜ (r ≡ offsetOf (now (file .entry)) i) × (r < 4294967296) ⌝ }
+    ensures { λ r. ⌜ (r ≡ offsetOf (now (file .entry)) i)
+        × (r < 4294967296) ⌝ }
 {
     let bytes = entry(file, i);
     two_bytes_at(bytes, 0) + 65536 * two_bytes_at(bytes, 2)
@@ -48,14 +58,16 @@ fn body_offset(file: &[u8], i: usize) -> usize
 
 // The length that entry i gives its body.
 fn body_length(file: &[u8], i: usize) -> usize
-    ensures { λ r. ⌜ (r ≡ lengthOf (now (file .entry)) i) × (r < 65536) ⌝ }
+    ensures { λ r. ⌜ (r ≡ lengthOf (now (file .entry)) i)
+        × (r < 65536) ⌝ }
 {
     two_bytes_at(entry(file, i), 4)
 }
 
 // The rule number of entry i, 0 if there is no entry i.
 pub fn rule_number(file: &[u8], i: usize) -> usize
-    ensures { λ r. ⌜ (r ≡ ruleOf (now (file .entry)) i) × (r < 65536) ⌝ }
+    ensures { λ r. ⌜ (r ≡ ruleOf (now (file .entry)) i)
+        × (r < 65536) ⌝ }
 {
     two_bytes_at(entry(file, i), 6)
 }
@@ -96,23 +108,23 @@ fn follows(file: &[u8], i: usize) -> bool
     body_offset(file, i) == start_of_body(file, i)
 }
 
-// Whether entry i answers question 23, or 24, with yes.
-fn passes(file: &[u8], question: usize, i: usize) -> bool
-    ensures { λ r. ⌜ r ≡ testOf (now (file .entry)) question i ⌝ }
+// Whether entry i passes the test.
+fn passes(file: &[u8], test: Test, i: usize) -> bool
+    ensures { λ r. ⌜ r ≡ testOf test (now (file .entry)) i ⌝ }
 {
-    if question == 23 {
-        return rises(file, i);
+    match test {
+        Test::RulesRise => rises(file, i),
+        Test::BodiesFollow => follows(file, i),
     }
-    follows(file, i)
 }
 
-// The first entry that answers the question with no, or the count.
-fn first_no(file: &[u8], question: usize, count: usize) -> usize
-    ensures { λ r. ⌜ r ≡ firstNo (testOf (now (file .entry)) question) count ⌝ }
+// The first entry that does not pass the test, or the count.
+fn first_no(file: &[u8], test: Test, count: usize) -> usize
+    ensures { λ r. ⌜ r ≡ firstNo (testOf test (now (file .entry))) count ⌝ }
 {
     let mut i = 0;
     while i < count {
-        if !passes(file, question, i) {
+        if !passes(file, test, i) {
             return i;
         }
         i += 1;
@@ -135,11 +147,11 @@ pub fn judge(file: &[u8]) -> Collected
     if len < 2 + 8 * count {
         return refused(22, 0);
     }
-    let unsorted = first_no(file, 23, count);
+    let unsorted = first_no(file, Test::RulesRise, count);
     if unsorted < count {
         return refused(23, unsorted);
     }
-    let misplaced = first_no(file, 24, count);
+    let misplaced = first_no(file, Test::BodiesFollow, count);
     if misplaced < count {
         return refused(24, misplaced);
     }

@@ -6,35 +6,32 @@ use mathlib.Core.Logic.{_⊎_, inl, inr, ⊎-elim}
 use Prim.Native.Nat.{ℕ, _+_, _*_, _≤_, _<_}
 use native.Mathlib.Omega.{arith}
 use lib.Dec.{eqb}
-use lib.ListN.{length, set, replicate, length-set, length-replicate, getD-replicate}
+use lib.ListN.{length, replicate, length-set, length-replicate, getD-replicate}
 use lib.Seq.{getD-set-same, getD-set-other}
 use Rattle.theory.specs.Monitor.{stateLimit}
 use Rattle.theory.proofs.Below.{lt-or-le}
-use Rattle.pairs.specs.Square.{never, squareSize, entry, differing, begun, begins, Blank, Begun, Fresh}
+use Rattle.pairs.specs.Square.{never, squareSize, place, entry, stored, differing, firstEntry, apartAtOnce, Blank, Entered, Fresh}
 
 -- ---- places of the square
 
--- v stored for p and q where the test u holds: the entries of other pairs stay
-abbrev pub stored : List ℕ → ℕ → ℕ → ℕ → Bool → List ℕ
-stored d p q v u = cond u (set d (p * stateLimit + q) v) d
-
+-- after a store for p and q the entries of other pairs stay
 module _ (d : List ℕ) (size : length d ≡ squareSize) (p q v : ℕ) where
   pub stored-size : (u : Bool) → length (stored d p q v u) ≡ squareSize
-  stored-size true = length-set d (p * stateLimit + q) v ∙ size
+  stored-size true = length-set d (place p q) v ∙ size
   stored-size false = size
 
   pub stored-here : p < stateLimit → q < stateLimit → (u : Bool) → entry (stored d p q v u) p q ≡ cond u v (entry d p q)
-  stored-here lp lq true = getD-set-same d (p * stateLimit + q) v 0 (omega arith)
+  stored-here lp lq true = getD-set-same d (place p q) v 0 (omega arith)
   stored-here lp lq false = refl
 
-  pub stored-elsewhere : (u : Bool) (x y : ℕ) → (x * stateLimit + y ≡ p * stateLimit + q → ⊥) → entry (stored d p q v u) x y ≡ entry d x y
-  stored-elsewhere true x y ne = getD-set-other d (p * stateLimit + q) (x * stateLimit + y) v 0 ne
+  pub stored-elsewhere : (u : Bool) (x y : ℕ) → (place x y ≡ place p q → ⊥) → entry (stored d p q v u) x y ≡ entry d x y
+  stored-elsewhere true x y ne = getD-set-other d (place p q) (place x y) v 0 ne
   stored-elsewhere false x y ne = refl
 
 -- what holds of all pairs before the place of p and q, and of p and q, holds of all pairs before the next place
 pub one-more : (P : ℕ → ℕ → Type 0) (n p q : ℕ) → n ≤ stateLimit → q < n
-    → ((x y : ℕ) → x < n → y < n → x * stateLimit + y < p * stateLimit + q → P x y) → P p q
-    → (x y : ℕ) → x < n → y < n → x * stateLimit + y < p * stateLimit + (q + 1) → P x y
+    → ((x y : ℕ) → x < n → y < n → place x y < place p q → P x y) → P p q
+    → (x y : ℕ) → x < n → y < n → place x y < place p (q + 1) → P x y
 one-more P n p q m lq all here x y lx ly l =
     ⊎-elim
     (λ b. all x y lx ly b)
@@ -42,10 +39,10 @@ one-more P n p q m lq all here x y lx ly l =
     let ex : p ≡ x = omega arith in
     let ey : q ≡ y = omega arith in
     subst (λ (z : ℕ). P z y) ex (subst (λ (z : ℕ). P p z) ey here))
-    (lt-or-le (x * stateLimit + y) (p * stateLimit + q))
+    (lt-or-le (place x y) (place p q))
 
 -- row p is done with its first n places
-pub row-done : (n p q x y : ℕ) → n ≤ stateLimit → n ≤ q → y < n → x * stateLimit + y < (p + 1) * stateLimit → x * stateLimit + y < p * stateLimit + q
+pub row-done : (n p q x y : ℕ) → n ≤ stateLimit → n ≤ q → y < n → place x y < (p + 1) * stateLimit → place x y < place p q
 row-done n p q x y m e ly l = omega arith
 
 -- ---- before the first round
@@ -54,45 +51,46 @@ pub blank-filled : Blank (replicate squareSize never)
 blank-filled = record { size = length-replicate {A = ℕ} squareSize never; filled = λ i l. getD-replicate {A = ℕ} squareSize i never 0 l }
 
 module _ {outs : List ℕ} (m : length outs ≤ stateLimit) where
-  pub begun-none : {d : List ℕ} → Blank d → Begun outs 0 d
-  begun-none b = record { size = b .size; done = λ p q lp lq l. absurd (omega arith); rest = λ p q lp lq _. b .filled (p * stateLimit + q) (omega arith) }
+  pub entered-none : {d : List ℕ} → Blank d → Entered outs 0 d
+  entered-none b = record { size = b .size; done = λ p q lp lq l. absurd (omega arith); rest = λ p q lp lq _. b .filled (place p q) (omega arith) }
 
-  pub begun-turn : (p q : ℕ) → p < length outs → q < length outs → {d e : List ℕ} → Begun outs (p * stateLimit + q) d → e ≡ stored d p q 0 (differing outs p q) → Begun outs (p * stateLimit + (q + 1)) e
-  begun-turn p q lp lq {d} b h =
+  pub entered-turn : (p q : ℕ) → p < length outs → q < length outs → {d e : List ℕ} → Entered outs (place p q) d → e ≡ stored d p q 0 (differing outs p q)
+      → Entered outs (place p (q + 1)) e
+  entered-turn p q lp lq {d} b h =
       let u = differing outs p q in
       rw h (record {
         size = stored-size d (b .size) p q 0 u;
-        done = one-more (λ x y. entry (stored d p q 0 u) x y ≡ begun outs x y) (length outs) p q m lq
+        done = one-more (λ x y. entry (stored d p q 0 u) x y ≡ firstEntry outs x y) (length outs) p q m lq
             (λ x y lx ly l. stored-elsewhere d (b .size) p q 0 u x y (λ h. omega arith) ∙ b .done x y lx ly l)
             (stored-here d (b .size) p q 0 (omega arith) (omega arith) u ∙ ap (cond u 0) (b .rest p q lp lq (omega arith)));
         rest = λ x y lx ly l. stored-elsewhere d (b .size) p q 0 u x y (λ h. omega arith) ∙ b .rest x y lx ly (omega arith);
       })
 
-  pub begun-row : {d : List ℕ} (p q : ℕ) → Begun outs (p * stateLimit + q) d → q ≤ length outs → length outs ≤ q → Begun outs ((p + 1) * stateLimit) d
-  begun-row p q b u e = record {
+  pub entered-row : {d : List ℕ} (p q : ℕ) → Entered outs (place p q) d → q ≤ length outs → length outs ≤ q → Entered outs ((p + 1) * stateLimit) d
+  entered-row p q b u e = record {
     size = b .size;
     done = λ x y lx ly l. b .done x y lx ly (row-done (length outs) p q x y m e ly l);
     rest = λ x y lx ly l. b .rest x y lx ly (omega arith);
   }
 
   -- all rows are done
-  module _ {n : ℕ} (same : length outs ≡ n) {d : List ℕ} (b : Begun outs (length outs * stateLimit) d) (p q : ℕ) (lp : p < n) (lq : q < n) where
-    known : entry d p q ≡ begun outs p q
+  module _ {n : ℕ} (same : length outs ≡ n) {d : List ℕ} (b : Entered outs (length outs * stateLimit) d) (p q : ℕ) (lp : p < n) (lq : q < n) where
+    known : entry d p q ≡ firstEntry outs p q
     known = b .done p q (omega arith) (omega arith) (omega arith)
 
-    begun-either : (entry d p q ≡ 0) ⊎ (entry d p q ≡ never)
-    begun-either = go (differing outs p q) known
+    entered-either : (entry d p q ≡ 0) ⊎ (entry d p q ≡ never)
+    entered-either = go (differing outs p q) known
       where
         go : {e : ℕ} (t : Bool) → e ≡ cond t 0 never → (e ≡ 0) ⊎ (e ≡ never)
         go true h = inl h
         go false h = inr h
 
-    pub begins-differing : begins d p q ≡ differing outs p q
-    begins-differing = ap (λ (e : ℕ). eqb e 0) known ∙ go (differing outs p q)
+    pub at-once-differing : apartAtOnce d p q ≡ differing outs p q
+    at-once-differing = ap (λ (e : ℕ). eqb e 0) known ∙ go (differing outs p q)
       where
         go : (t : Bool) → eqb (cond t 0 never) 0 ≡ t
         go true = refl
         go false = refl
 
-  pub begun-fresh : {n : ℕ} → length outs ≡ n → {d : List ℕ} → Begun outs (length outs * stateLimit) d → Fresh n d
-  begun-fresh same b = record { size = b .size; either = begun-either same b }
+  pub entered-fresh : {n : ℕ} → length outs ≡ n → {d : List ℕ} → Entered outs (length outs * stateLimit) d → Fresh n d
+  entered-fresh same b = record { size = b .size; either = entered-either same b }

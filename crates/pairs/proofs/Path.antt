@@ -34,7 +34,8 @@ noted-extent {P} e s = go (eqb e never) refl
     go false h = s .found (⊎-elim (λ l. l) (λ l. absurd (eqb-false e never h (omega (arith, s .most)))) (lt-or-le e never))
 
 -- the square holds the distance of every pair
-pub square-exact : {g : Automaton} {ends : ℕ → ℕ → Bool} {d : List ℕ} → Squared g ends d → (p q : ℕ) → p < g .states → q < g .states → PairDistance g ends p q (extent (entry d p q))
+pub square-exact : {g : Automaton} {ends : ℕ → ℕ → Bool} {d : List ℕ} → Squared g ends d → (p q : ℕ) → p < g .states → q < g .states
+    → PairDistance g ends p q (extent (entry d p q))
 square-exact {d = d} s p q lp lq = noted-extent (entry d p q) (s .noted p q lp lq)
 
 module _ (g : Automaton) (d : List ℕ) (e p q : ℕ) where
@@ -47,7 +48,8 @@ module _ (g : Automaton) (d : List ℕ) (e p q : ℕ) where
 
   pub nearer-least : (a : ℕ) → entry d (g .next p a) (g .next q a) ≡ e → nearer g d e p q ≤ a
   nearer-least a h =
-      ⊎-elim (λ l. absurd (clash (eq-eqb (entry d (g .next p a) (g .next q a)) e h) (first-below leadsTo 0 (g .symbols) a zero-le l))) (λ l. l) (lt-or-le a (nearer g d e p q))
+      ⊎-elim (λ l. absurd (clash (eq-eqb (entry d (g .next p a) (g .next q a)) e h) (first-below leadsTo 0 (g .symbols) a zero-le l))) (λ l. l)
+      (lt-or-le a (nearer g d e p q))
 
   pub nearer-leads : nearer g d e p q < g .symbols → entry d (g .next p (nearer g d e p q)) (g .next q (nearer g d e p q)) ≡ e
   nearer-leads l = eqb-true (entry d (g .next p (nearer g d e p q)) (g .next q (nearer g d e p q))) e (first-here leadsTo 0 (g .symbols) (omega arith))
@@ -62,11 +64,15 @@ path-length g d zero p q = refl
 path-length g d (suc e) p q = ap suc (path-length g d e (g .next p (nearer g d e p q)) (g .next q (nearer g d e p q)))
 
 module _ {g : Automaton} {ends : ℕ → ℕ → Bool} {d : List ℕ} (c : Closed g) (s : Squared g ends d) where
+  noted-after : (p q a : ℕ) → p < g .states → q < g .states → a < g .symbols
+      → Noted (Tells g ends (g .next p a) (g .next q a)) (entry d (g .next p a) (g .next q a))
+  noted-after p q a lp lq la = s .noted (g .next p a) (g .next q a) (c .next-in p a lp la) (c .next-in q a lq la)
+
   -- after a symbol at most one fewer is needed
   pub entry-after : (p q a : ℕ) → p < g .states → q < g .states → a < g .symbols → entry d p q ≤ suc (entry d (g .next p a) (g .next q a))
   entry-after p q a lp lq la =
       let here = s .noted p q lp lq in
-      let there = s .noted (g .next p a) (g .next q a) (c .next-in p a lp la) (c .next-in q a lq la) in
+      let there = noted-after p q a lp lq la in
       ⊎-elim
       (λ l. (let w = there .found l in omega (arith, w .long, noted-least here (a ∷ w .word) (tells-step g ends p q a (w .word) la (w .has)))))
       (λ l. omega (arith, here .most))
@@ -75,14 +81,13 @@ module _ {g : Automaton} {ends : ℕ → ℕ → Bool} {d : List ℕ} (c : Close
   pub squared-falls : Falling g d
   squared-falls = record { falls = λ p q e lp lq h l. (let w = s .noted p q lp lq .found (omega arith) in go p q e lp lq h (w .word) (w .long ∙ h) (w .has)) }
     where
-      go : (p q e : ℕ) → p < g .states → q < g .states → entry d p q ≡ suc e → (w : List ℕ) → length w ≡ suc e → Tells g ends p q w → nearer g d e p q < g .symbols
+      go : (p q e : ℕ) → p < g .states → q < g .states → entry d p q ≡ suc e → (w : List ℕ) → length w ≡ suc e → Tells g ends p q w
+          → nearer g d e p q < g .symbols
       go p q e lp lq h [] el t = absurd (omega arith)
       go p q e lp lq h (a ∷ w) el t =
           let r = tells-rest g ends p q a w t in
-          lt-of-le-of-lt
-          (nearer-least g d e p q a
-          (omega (arith, entry-after p q a lp lq (r .0), noted-least (s .noted (g .next p a) (g .next q a) (c .next-in p a lp (r .0)) (c .next-in q a lq (r .0))) w (r .1))))
-          (r .0)
+          let least = noted-least (noted-after p q a lp lq (r .0)) w (r .1) in
+          lt-of-le-of-lt (nearer-least g d e p q a (omega (arith, least, entry-after p q a lp lq (r .0)))) (r .0)
 
   pub path-tells : (e p q : ℕ) → p < g .states → q < g .states → entry d p q ≡ e → e < never → Tells g ends p q (path g d e p q)
   unfolding path
@@ -101,13 +106,13 @@ module _ {g : Automaton} {ends : ℕ → ℕ → Bool} {d : List ℕ} (c : Close
   nothing-sooner : (e p q a : ℕ) → p < g .states → q < g .states → entry d p q ≡ suc e → a < g .symbols → a < nearer g d e p q
       → (w : List ℕ) → Trace g w → length w ≡ e → apartBy g ends (g .next p a) (g .next q a) w ≡ false
   nothing-sooner e p q a lp lq h la l w t el =
-      not-clash
-      (λ b.
-      let most = noted-least (s .noted (g .next p a) (g .next q a) (c .next-in p a lp la) (c .next-in q a lq la)) w (record { trace = t; apart = b }) in
+      not-clash (λ b.
+      let most = noted-least (noted-after p q a lp lq la) w (record { trace = t; apart = b }) in
       omega (arith, l, nearer-least g d e p q a (omega (arith, h, el, most, entry-after p q a lp lq la))))
 
   -- of the traces of e symbols, in order, the path is the first that tells p and q apart
-  pub path-first : (e p q : ℕ) → p < g .states → q < g .states → entry d p q ≡ e → e < never → find (apartBy g ends p q) (words (g .symbols) e) ≡ some (path g d e p q)
+  pub path-first : (e p q : ℕ) → p < g .states → q < g .states → entry d p q ≡ e → e < never
+      → find (apartBy g ends p q) (words (g .symbols) e) ≡ some (path g d e p q)
   unfolding path words find run
   path-first zero p q lp lq h l = rw (tells-ends g ends p q (path-tells zero p q lp lq h l))
   path-first (suc e) p q lp lq h l =

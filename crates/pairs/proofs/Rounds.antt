@@ -1,10 +1,10 @@
 -- One pair, one row and one round of the search, and what holds when a round adds nothing.
-use mathlib.Core.Path.{_≡_, refl, sym, ap, _∙_, subst}
+use mathlib.Core.Path.{_≡_, refl, sym, _∙_, subst}
 use mathlib.Core.Bool.{Bool, true, false, cond, _&&_, _||_}
 use mathlib.Core.List.{List}
 use mathlib.Core.Logic.{_⊎_, inl, inr, ⊎-elim}
 use Prim.Native.Nat.{ℕ, zero, suc, _+_, _*_, _≤_, _<_}
-use native.Mathlib.Nat.{le-refl, le-antisymm, mul-le-mul}
+use native.Mathlib.Nat.{le-refl, mul-le-mul}
 use native.Mathlib.Numerals.{add-one}
 use native.Mathlib.Omega.{arith}
 use lib.Dec.{eqb, leb, eqb·suc-zero, leb·suc-zero}
@@ -15,10 +15,11 @@ use Rattle.theory.specs.Automaton.{Automaton, Closed}
 use Rattle.theory.specs.Monitor.{stateLimit}
 use Rattle.theory.specs.Pairs.{Tells, told}
 use Rattle.theory.specs.Extent.{Shortest}
-use Rattle.theory.proofs.Below.{clash, lt-or-le, or-right, and-left, and-right, any-at, any-same, any-more}
+use Rattle.theory.proofs.Below.{clash, lt-or-le, or-right, and-left, and-right, any-same}
 use Rattle.theory.proofs.Pairs.{onward, told-sound, told-complete, told-more, told-up, still-ever, told-settled, tells-same}
-use Rattle.pairs.specs.Square.{never, squareSize, entry, Noted, Squared, New, Rounds, begins, leadsWithin, adds, Fresh, Stage, Midway}
-use Rattle.pairs.proofs.Entries.{stored, stored-size, stored-here, stored-elsewhere, one-more, row-done}
+use Rattle.pairs.specs.Square.{never, squareSize, place, entry, stored, Noted, Squared, New, Rounds, apartAtOnce, leadsWithin, adds, Fresh, Stage}
+use Rattle.pairs.specs.Square.{Midway}
+use Rattle.pairs.proofs.Entries.{stored-size, stored-here, stored-elsewhere, one-more, row-done}
 
 -- ---- the symbols of one pair
 
@@ -27,15 +28,8 @@ module _ (g : Automaton) (d : List ℕ) (r p q : ℕ) where
   abbrev pub within : ℕ → Bool
   within a = leb (entry d (g .next p a) (g .next q a)) r
 
-  module _ (a : ℕ) {x y : ℕ} (ex : x ≡ g .next p a) (ey : y ≡ g .next q a) where
-    pub within-here : entry d x y ≤ r → a < g .symbols → true ≡ leadsWithin g d r p q
-    within-here h l = sym (any-at (g .symbols) within a l (rw (← ex, ← ey) (le-leb (entry d x y) r h)))
-
-    pub within-turn : r < entry d x y → false ≡ any a within → false ≡ any (a + 1) within
-    within-turn h o = sym (any-more a within ∙ rw (← o, ← ex, ← ey) (lt-leb (entry d x y) r h))
-
-  pub within-end : {a : ℕ} → a ≤ g .symbols → g .symbols ≤ a → any a within ≡ leadsWithin g d r p q
-  within-end l h = ap (λ (x : ℕ). any x within) (le-antisymm l h)
+  pub within-as : {a x y : ℕ} {b : Bool} → x ≡ g .next p a → y ≡ g .next q a → leb (entry d x y) r ≡ b → within a ≡ b
+  within-as ex ey h = rw (← ex, ← ey) h
 
 -- ---- one pair
 
@@ -68,7 +62,8 @@ module _ (g : Automaton) (ends : ℕ → ℕ → Bool) (r p q : ℕ) where
     noted-told n = s .agrees r (le-refl r) ∙ le-leb e r (noted-le n)
 
     -- f is the entry after the round
-    stage-on : (f : ℕ) → ((t : ℕ) → t ≤ r → leb e t ≡ leb f t) → told g ends (suc r) p q ≡ leb f (suc r) → (f ≤ suc r) ⊎ (f ≡ never) → Stage g ends (suc r) p q f
+    stage-on : (f : ℕ) → ((t : ℕ) → t ≤ r → leb e t ≡ leb f t) → told g ends (suc r) p q ≡ leb f (suc r) → (f ≤ suc r) ⊎ (f ≡ never)
+        → Stage g ends (suc r) p q f
     stage-on f old new known = record {
       agrees = λ t l. ⊎-elim
           (λ (h : t < suc r). s .agrees t (omega arith) ∙ old t (omega arith))
@@ -131,22 +126,22 @@ module _ {g : Automaton} (c : Closed g) (m : g .states ≤ stateLimit) {ends : �
       ⊎-elim
       (λ l. sym (w .done p q lp lq l .agrees r (omega arith)))
       (λ l. sym (w .rest p q lp lq l .agrees r (le-refl r)))
-      (lt-or-le (p * stateLimit + q) i)
+      (lt-or-le (place p q) i)
 
   leads-told : {i a : ℕ} {d : List ℕ} → Midway g ends r i a d → (p q : ℕ) → p < g .states → q < g .states → leadsWithin g d r p q ≡ leading g ends r p q
   leads-told {i} {a} {d} w p q lp lq =
       any-same (g .symbols) (within g d r p q) (onward g ends r p q)
       (λ x l. test-told w (g .next p x) (g .next q x) (c .next-in p x lp l) (c .next-in q x lq l))
 
-  module _ (fits : r + 1 < never) (p q : ℕ) (lp : p < g .states) (lq : q < g .states) {a : ℕ} {d : List ℕ} (w : Midway g ends r (p * stateLimit + q) a d) where
+  module _ (fits : r + 1 < never) (p q : ℕ) (lp : p < g .states) (lq : q < g .states) {a : ℕ} {d : List ℕ} (w : Midway g ends r (place p q) a d) where
     abbrev new : Bool → List ℕ
     new u = stored d p q (r + 1) u
 
-    elsewhere : (u : Bool) (x y : ℕ) → (x * stateLimit + y ≡ p * stateLimit + q → ⊥) → entry d x y ≡ entry (new u) x y
+    elsewhere : (u : Bool) (x y : ℕ) → (place x y ≡ place p q → ⊥) → entry d x y ≡ entry (new u) x y
     elsewhere u x y ne = sym (stored-elsewhere d (w .size) p q (r + 1) u x y ne)
 
     stage-here : Stage g ends r p q (entry d p q)
-    stage-here = w .rest p q lp lq (le-refl (p * stateLimit + q))
+    stage-here = w .rest p q lp lq (le-refl (place p q))
 
     leads : leadsWithin g d r p q ≡ leading g ends r p q
     leads = leads-told w p q lp lq
@@ -160,25 +155,26 @@ module _ {g : Automaton} (c : Closed g) (m : g .states ≤ stateLimit) {ends : �
     some false h z = w .moved (omega arith)
 
     -- p and q have the round
-    turned : Midway g ends r (p * stateLimit + (q + 1)) (a + cond (adds g d r p q) 1 0) (new (adds g d r p q))
+    turned : Midway g ends r (place p (q + 1)) (a + cond (adds g d r p q) 1 0) (new (adds g d r p q))
     turned =
         let u = adds g d r p q in
         record {
           size = stored-size d (w .size) p q (r + 1) u;
           done = one-more (λ x y. Stage g ends (suc r) x y (entry (new u) x y)) (g .states) p q m lq
               (λ x y lx ly l. subst (Stage g ends (suc r) x y) (elsewhere u x y (λ h. omega arith)) (w .done x y lx ly l))
-              (subst (Stage g ends (suc r) p q) (sym (stored-here d (w .size) p q (r + 1) (omega arith) (omega arith) u)) (stage-next g ends r p q fits stage-here leads));
+              (subst (Stage g ends (suc r) p q) (sym (stored-here d (w .size) p q (r + 1) (omega arith) (omega arith) u))
+              (stage-next g ends r p q fits stage-here leads));
           rest = λ x y lx ly l. subst (Stage g ends r x y) (elsewhere u x y (λ h. omega arith)) (w .rest x y lx ly (omega arith));
           still = λ z. one-more (λ x y. told g ends (suc r) x y ≡ told g ends r x y) (g .states) p q m lq (w .still (omega arith))
               (stage-same g ends r p q fits stage-here leads (none u z));
           moved = some u refl;
         }
 
-    pub midway-turn : {u : Bool} {b : ℕ} {e : List ℕ} → u ≡ adds g d r p q → b ≡ a + cond u 1 0 → e ≡ new (adds g d r p q) → Midway g ends r (p * stateLimit + (q + 1)) b e
-    midway-turn h l k = rw (l, h, k) turned
+    pub midway-turn : {u : Bool} {b : ℕ} {e : List ℕ} → u ≡ adds g d r p q → b ≡ a + cond u 1 0 → e ≡ new u → Midway g ends r (place p (q + 1)) b e
+    midway-turn h l k = rw (k, l, h) turned
 
   -- row p has had the round
-  pub midway-row : (p q : ℕ) {a : ℕ} {d : List ℕ} → Midway g ends r (p * stateLimit + q) a d → q ≤ g .states → g .states ≤ q → Midway g ends r ((p + 1) * stateLimit) a d
+  pub midway-row : (p q : ℕ) {a : ℕ} {d : List ℕ} → Midway g ends r (place p q) a d → q ≤ g .states → g .states ≤ q → Midway g ends r ((p + 1) * stateLimit) a d
   midway-row p q w u e = record {
     size = w .size;
     done = λ x y lx ly l. w .done x y lx ly (row-done (g .states) p q x y m e ly l);
@@ -203,7 +199,8 @@ module _ {g : Automaton} (c : Closed g) (m : g .states ≤ stateLimit) {ends : �
         ⊎-elim
         (λ h. h)
         (λ h. absurd (clash
-        (told-up g ends (g .states * g .states) r (x .first) (x .second) h (told-settled g ends c (suc r) (x .first) (x .second) (x .first-in) (x .second-in) (x .now)))
+        (told-up g ends (g .states * g .states) r (x .first) (x .second) h
+        (told-settled g ends c (suc r) (x .first) (x .second) (x .first-in) (x .second-in) (x .now)))
         (x .not-yet)))
         (lt-or-le r (g .states * g .states))
 
@@ -220,19 +217,22 @@ module _ {g : Automaton} (c : Closed g) (m : g .states ≤ stateLimit) {ends : �
       module _ (p q : ℕ) (lp : p < g .states) (lq : q < g .states) where
         entry-told : (v : List ℕ) → Tells g ends p q v → entry d p q ≤ r
         entry-told v t =
-            leb-true (entry d p q) r (sym (whole p q lp lq .agrees r (omega arith)) ∙ still-ever g ends c r (length v) p q (λ x y lx ly. w .still (omega arith) x y lx ly (omega arith)) lp lq
+            leb-true (entry d p q) r (sym (whole p q lp lq .agrees r (omega arith))
+            ∙ still-ever g ends c r (length v) p q (λ x y lx ly. w .still (omega arith) x y lx ly (omega arith)) lp lq
             (told-complete g ends (length v) p q v (le-refl (length v)) t))
 
         entry-least : (v : List ℕ) → Tells g ends p q v → entry d p q ≤ length v
         entry-least v t =
             ⊎-elim
             (λ (l : r < length v). omega (arith, entry-told v t))
-            (λ l. leb-true (entry d p q) (length v) (sym (whole p q lp lq .agrees (length v) (omega arith)) ∙ told-complete g ends (length v) p q v (le-refl (length v)) t))
+            (λ l. leb-true (entry d p q) (length v)
+            (sym (whole p q lp lq .agrees (length v) (omega arith)) ∙ told-complete g ends (length v) p q v (le-refl (length v)) t))
             (lt-or-le r (length v))
 
         shortest : entry d p q ≤ suc r → Shortest (Tells g ends p q) (entry d p q)
         shortest l =
-            let f = told-sound g ends (entry d p q) p q (whole p q lp lq .agrees (entry d p q) l ∙ le-leb (entry d p q) (entry d p q) (le-refl (entry d p q))) in
+            let f = told-sound g ends (entry d p q) p q
+            (whole p q lp lq .agrees (entry d p q) l ∙ le-leb (entry d p q) (entry d p q) (le-refl (entry d p q))) in
             record { word = f .word; has = f .tells; long = omega (arith, f .short, entry-least (f .word) (f .tells)); least = entry-least }
 
         entry-noted : Noted (Tells g ends p q) (entry d p q)
@@ -251,11 +251,11 @@ at-zero : (e : ℕ) → eqb e 0 ≡ leb e 0
 at-zero zero = refl
 at-zero (suc e) = eqb·suc-zero e ∙ sym (leb·suc-zero e)
 
-pub midway-first : {g : Automaton} {d : List ℕ} → Fresh (g .states) d → Midway g (begins d) 0 0 0 d
+pub midway-first : {g : Automaton} {d : List ℕ} → Fresh (g .states) d → Midway g (apartAtOnce d) 0 0 0 d
 unfolding told
 midway-first {g} {d} f =
     midway-start (f .size) (λ p q lp lq. record {
-      agrees = λ s l. (let z : 0 ≡ s = omega arith in subst (λ (x : ℕ). told g (begins d) x p q ≡ leb (entry d p q) x) z (at-zero (entry d p q)));
+      agrees = λ s l. (let z : 0 ≡ s = omega arith in subst (λ (x : ℕ). told g (apartAtOnce d) x p q ≡ leb (entry d p q) x) z (at-zero (entry d p q)));
       known = ⊎-elim (λ h. inl (omega arith)) (λ h. inr h) (f .either p q lp lq);
     })
 
@@ -264,13 +264,15 @@ pub few-rounds : {n : ℕ} → n ≤ stateLimit → n * n ≤ squareSize
 few-rounds m = mul-le-mul m m
 
 -- only the test on states matters
-pub squared-same : {g : Automaton} {f h : ℕ → ℕ → Bool} {d : List ℕ} → Closed g → ((p q : ℕ) → p < g .states → q < g .states → f p q ≡ h p q) → Squared g f d → Squared g h d
+pub squared-same : {g : Automaton} {f h : ℕ → ℕ → Bool} {d : List ℕ} → Closed g → ((p q : ℕ) → p < g .states → q < g .states → f p q ≡ h p q) → Squared g f d
+    → Squared g h d
 squared-same {g} {f} {h} {d} c e s = record { size = s .size; noted = λ p q lp lq. noted p q lp lq (s .noted p q lp lq) }
   where
     noted : (p q : ℕ) → p < g .states → q < g .states → Noted (Tells g f p q) (entry d p q) → Noted (Tells g h p q) (entry d p q)
     noted p q lp lq x = record {
       most = x .most;
-      found = λ l. (let y = x .found l in record { word = y .word; has = tells-same g f h c e p q (y .word) lp lq (y .has); long = y .long; least = λ v t. y .least v (back v t) });
+      found = λ l. (let y = x .found l in
+          record { word = y .word; has = tells-same g f h c e p q (y .word) lp lq (y .has); long = y .long; least = λ v t. y .least v (back v t) });
       none = λ z v t. x .none z v (back v t);
     }
       where

@@ -7,7 +7,7 @@ use native.Mathlib.Omega.{arith}
 use lib.ListN.{length, set, length-set}
 use lib.Seq.{sets, length-sets}
 use Rattle.theory.specs.Automaton.{Automaton, Closed, run}
-use Rattle.pairs.specs.Square.{never, entry, nearer, Falling, path}
+use Rattle.pairs.specs.Square.{never, entry, nearer, Falling, path, apart}
 use Rattle.pairs.proofs.Path.{nearer-leads}
 
 -- begun at p and q with the area `start`, to be written from `at` on; now at x and y, with `left` symbols still to be written from i on
@@ -17,18 +17,20 @@ pub record Walk (g : Automaton) (d : List ℕ) (p q : ℕ) (start : List ℕ) (a
   pub here : entry d x y ≡ left
   pub told : left < never
   pub room : i + left ≤ length area
-  pub written : sets area i (path g d left x y) ≡ sets start at (path g d (entry d p q) p q)
-  pub first-goes : run g x (path g d left x y) ≡ run g p (path g d (entry d p q) p q)
-  pub second-goes : run g y (path g d left x y) ≡ run g q (path g d (entry d p q) p q)
+  pub written : sets area i (path g d left x y) ≡ sets start at (apart g d p q)
+  pub first-goes : run g x (path g d left x y) ≡ run g p (apart g d p q)
+  pub second-goes : run g y (path g d left x y) ≡ run g q (apart g d p q)
 
-pub walk-begins : {g : Automaton} {d : List ℕ} {p q left : ℕ} {area : List ℕ} {at : ℕ} → p < g .states → q < g .states → left ≡ entry d p q → entry d p q < never → at + entry d p q ≤ length area → Walk g d p q area at area p q at left
-walk-begins lp lq e l r = rw e (record { first-in = lp; second-in = lq; here = refl; told = l; room = r; written = refl; first-goes = refl; second-goes = refl })
+pub walk-begins : {g : Automaton} {d : List ℕ} {p q left : ℕ} {area : List ℕ} {at : ℕ} → p < g .states → q < g .states → left ≡ entry d p q
+    → entry d p q < never → at + entry d p q ≤ length area → Walk g d p q area at area p q at left
+walk-begins lp lq e l r =
+    rw e (record { first-in = lp; second-in = lq; here = refl; told = l; room = r; written = refl; first-goes = refl; second-goes = refl })
 
 module _ {g : Automaton} {d : List ℕ} {p q : ℕ} {start : List ℕ} {at : ℕ} {area : List ℕ} {x y i left : ℕ} (w : Walk g d p q start at area x y i left) where
   pub walk-length : length area ≡ length start
-  walk-length = sym (length-sets area i (path g d left x y)) ∙ ap length (w .written) ∙ length-sets start at (path g d (entry d p q) p q)
+  walk-length = sym (length-sets area i (path g d left x y)) ∙ ap length (w .written) ∙ length-sets start at (apart g d p q)
 
-  pub walk-ends : left ≤ 0 → (area ≡ sets start at (path g d (entry d p q) p q)) × (x ≡ run g p (path g d (entry d p q) p q)) × (y ≡ run g q (path g d (entry d p q) p q))
+  pub walk-ends : left ≤ 0 → (area ≡ sets start at (apart g d p q)) × (x ≡ run g p (apart g d p q)) × (y ≡ run g q (apart g d p q))
   unfolding path run
   walk-ends l = (let e : left ≡ 0 = omega arith in let z : Walk g d p q start at area x y i 0 = rw e at w in (z .written, z .first-goes, z .second-goes))
 
@@ -42,7 +44,8 @@ module _ {g : Automaton} {d : List ℕ} {p q : ℕ} {start : List ℕ} {at : ℕ
     pub walk-symbol : {a : ℕ} → a ≡ nearer g d (left - 1) x y → a < g .symbols
     walk-symbol ea = rw ea walk-nearer
 
-    pub walk-goes-on : Closed g → {a x′ y′ : ℕ} → a ≡ nearer g d (left - 1) x y → x′ ≡ g .next x a → y′ ≡ g .next y a → Walk g d p q start at (set area i a) x′ y′ (i + 1) (left - 1)
+    pub walk-goes-on : Closed g → {a x′ y′ : ℕ} → a ≡ nearer g d (left - 1) x y → x′ ≡ g .next x a → y′ ≡ g .next y a
+        → Walk g d p q start at (set area i a) x′ y′ (i + 1) (left - 1)
     unfolding path run
     walk-goes-on c ea ex ey =
         rw (ex, ey, ea)

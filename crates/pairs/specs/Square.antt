@@ -1,11 +1,12 @@
--- The square of pair distances as the search holds it: row by row, the greatest two-byte number where a pair is not told apart.
+-- The square of pair distances as the search holds it: row by row, the greatest two-byte number where a pair is not
+-- told apart.
 use mathlib.Core.Path.{_≡_}
 use mathlib.Core.Bool.{Bool, true, false, cond, not, _&&_}
 use mathlib.Core.List.{List, [], _∷_}
 use mathlib.Core.Logic.{_⊎_}
 use Prim.Native.Nat.{ℕ, zero, suc, _+_, _*_, _≤_, _<_}
 use lib.Dec.{eqb, leb}
-use lib.ListN.{length, getD}
+use lib.ListN.{length, getD, set}
 use Rattle.theory.specs.Below.{any, first}
 use Rattle.theory.specs.Automaton.{Automaton}
 use Rattle.theory.specs.Monitor.{stateLimit}
@@ -20,9 +21,17 @@ never = 65535
 abbrev pub squareSize : ℕ
 squareSize = stateLimit * stateLimit
 
+-- where the states p and q have their entry
+abbrev pub place : ℕ → ℕ → ℕ
+place p q = p * stateLimit + q
+
 -- what stands in the square for the states p and q
 abbrev pub entry : List ℕ → ℕ → ℕ → ℕ
-entry d p q = getD d (p * stateLimit + q) 0
+entry square p q = getD square (place p q) 0
+
+-- the square with v for p and q where the test says so
+abbrev pub stored : List ℕ → ℕ → ℕ → ℕ → Bool → List ℕ
+stored square p q v test = cond test (set square (place p q) v) square
 
 -- what an entry stands for
 abbrev pub extent : ℕ → Extent
@@ -34,10 +43,11 @@ pub record Noted (P : List ℕ → Type 0) (e : ℕ) : Type 0 where
   pub found : e < never → Shortest P e
   pub none : e ≡ never → (w : List ℕ) → P w → ⊥
 
--- the square d holds the distance of every pair of states: "a pair's distance is the fewest messages after which its two states read differently", here: pass the test
-pub record Squared (g : Automaton) (ends : ℕ → ℕ → Bool) (d : List ℕ) : Type 0 where
-  pub size : length d ≡ squareSize
-  pub noted : (p q : ℕ) → p < g .states → q < g .states → Noted (Tells g ends p q) (entry d p q)
+-- the square holds the distance of every pair of states: "a pair's distance is the fewest messages after which its two
+-- states read differently", here: pass the test
+pub record Squared (g : Automaton) (ends : ℕ → ℕ → Bool) (square : List ℕ) : Type 0 where
+  pub size : length square ≡ squareSize
+  pub noted : (p q : ℕ) → p < g .states → q < g .states → Noted (Tells g ends p q) (entry square p q)
 
 -- two states told apart within r + 1 symbols and not within r
 pub record New (g : Automaton) (ends : ℕ → ℕ → Bool) (r : ℕ) : Type 0 where
@@ -60,61 +70,76 @@ abbrev pub differing : List ℕ → ℕ → ℕ → Bool
 differing outs p q = not (eqb (getD outs p 0) (getD outs q 0))
 
 -- the entry of a pair before the first round, by its outputs
-abbrev pub begun : List ℕ → ℕ → ℕ → ℕ
-begun outs p q = cond (differing outs p q) 0 never
+abbrev pub firstEntry : List ℕ → ℕ → ℕ → ℕ
+firstEntry outs p q = cond (differing outs p q) 0 never
 
 -- some symbol leads from p and q to a pair told apart within r
 abbrev pub leadsWithin : Automaton → List ℕ → ℕ → ℕ → ℕ → Bool
-leadsWithin g d r p q = any (g .symbols) (λ a. leb (entry d (g .next p a) (g .next q a)) r)
+leadsWithin g square r p q = any (g .symbols) (λ a. leb (entry square (g .next p a) (g .next q a)) r)
 
 -- the round after r adds the pair
 abbrev pub adds : Automaton → List ℕ → ℕ → ℕ → ℕ → Bool
-adds g d r p q = eqb (entry d p q) never && leadsWithin g d r p q
+adds g square r p q = eqb (entry square p q) never && leadsWithin g square r p q
 
 -- the square as it is filled: no pair is told apart
-pub record Blank (d : List ℕ) : Type 0 where
-  pub size : length d ≡ squareSize
-  pub filled : (i : ℕ) → i < squareSize → getD d i 0 ≡ never
+pub record Blank (square : List ℕ) : Type 0 where
+  pub size : length square ≡ squareSize
+  pub filled : (i : ℕ) → i < squareSize → getD square i 0 ≡ never
 
--- the square before the first round: the pairs before place i (row by row) are as their outputs say, the others as filled
-pub record Begun (outs : List ℕ) (i : ℕ) (d : List ℕ) : Type 0 where
-  pub size : length d ≡ squareSize
-  pub done : (p q : ℕ) → p < length outs → q < length outs → p * stateLimit + q < i → entry d p q ≡ begun outs p q
-  pub rest : (p q : ℕ) → p < length outs → q < length outs → i ≤ p * stateLimit + q → entry d p q ≡ never
+-- the square before the first round: the pairs before place i (row by row) are as their outputs say, the others as
+-- filled
+pub record Entered (outs : List ℕ) (i : ℕ) (square : List ℕ) : Type 0 where
+  pub size : length square ≡ squareSize
+  pub done : (p q : ℕ) → p < length outs → q < length outs → place p q < i → entry square p q ≡ firstEntry outs p q
+  pub rest : (p q : ℕ) → p < length outs → q < length outs → i ≤ place p q → entry square p q ≡ never
 
--- the test that a square begins with: the pair is at 0
-abbrev pub begins : List ℕ → ℕ → ℕ → Bool
-begins d p q = eqb (entry d p q) 0
+-- the pair is told apart by no symbol at all: it is at 0
+abbrev pub apartAtOnce : List ℕ → ℕ → ℕ → Bool
+apartAtOnce square p q = eqb (entry square p q) 0
 
 -- every pair is at 0 or not told apart
-pub record Fresh (n : ℕ) (d : List ℕ) : Type 0 where
-  pub size : length d ≡ squareSize
-  pub either : (p q : ℕ) → p < n → q < n → (entry d p q ≡ 0) ⊎ (entry d p q ≡ never)
+pub record Fresh (n : ℕ) (square : List ℕ) : Type 0 where
+  pub size : length square ≡ squareSize
+  pub either : (p q : ℕ) → p < n → q < n → (entry square p q ≡ 0) ⊎ (entry square p q ≡ never)
 
 -- after r rounds: e is how many symbols tell p and q apart where at most r do, and never where they do not
 pub record Stage (g : Automaton) (ends : ℕ → ℕ → Bool) (r p q e : ℕ) : Type 0 where
   pub agrees : (s : ℕ) → s ≤ r → told g ends s p q ≡ leb e s
   pub known : (e ≤ r) ⊎ (e ≡ never)
 
--- the square in the middle of the round after r: the pairs before place i (row by row) have had it, the others not; where `added` is 0 none of them is new, and where it is not some pair is
-pub record Midway (g : Automaton) (ends : ℕ → ℕ → Bool) (r i added : ℕ) (d : List ℕ) : Type 0 where
-  pub size : length d ≡ squareSize
-  pub done : (p q : ℕ) → p < g .states → q < g .states → p * stateLimit + q < i → Stage g ends (suc r) p q (entry d p q)
-  pub rest : (p q : ℕ) → p < g .states → q < g .states → i ≤ p * stateLimit + q → Stage g ends r p q (entry d p q)
-  pub still : added ≡ 0 → (p q : ℕ) → p < g .states → q < g .states → p * stateLimit + q < i → told g ends (suc r) p q ≡ told g ends r p q
+-- the square in the middle of the round after r: the pairs before place i (row by row) have had it, the others not;
+-- where `added` is 0 none of them is new, and where it is not some pair is
+pub record Midway (g : Automaton) (ends : ℕ → ℕ → Bool) (r i added : ℕ) (square : List ℕ) : Type 0 where
+  pub size : length square ≡ squareSize
+  pub done : (p q : ℕ) → p < g .states → q < g .states → place p q < i → Stage g ends (suc r) p q (entry square p q)
+  pub rest : (p q : ℕ) → p < g .states → q < g .states → i ≤ place p q → Stage g ends r p q (entry square p q)
+  pub still : added ≡ 0
+      → (p q : ℕ) → p < g .states → q < g .states → place p q < i → told g ends (suc r) p q ≡ told g ends r p q
   pub moved : 0 < added → New g ends r
+
+-- the round after r goes on from place i, with a pairs added so far, to place j, with b, whatever the test of two
+-- states
+abbrev pub RoundGoesOn : Automaton → ℕ → ℕ → ℕ → List ℕ → ℕ → ℕ → List ℕ → Type 0
+RoundGoesOn g r i a before j b after = (ends : ℕ → ℕ → Bool) → Midway g ends r i a before → Midway g ends r j b after
 
 -- ---- the first of the shortest traces that tell two states apart
 
 -- the lowest symbol from p and q to a pair with the entry e, or the number of symbols
 abbrev pub nearer : Automaton → List ℕ → ℕ → ℕ → ℕ → ℕ
-nearer g d e p q = first (λ a. eqb (entry d (g .next p a) (g .next q a)) e) 0 (g .symbols)
+nearer g square e p q = first (λ a. eqb (entry square (g .next p a) (g .next q a)) e) 0 (g .symbols)
 
 -- from each pair that is told apart some symbol leads one nearer
-pub record Falling (g : Automaton) (d : List ℕ) : Type 0 where
-  pub falls : (p q e : ℕ) → p < g .states → q < g .states → entry d p q ≡ suc e → suc e < never → nearer g d e p q < g .symbols
+pub record Falling (g : Automaton) (square : List ℕ) : Type 0 where
+  pub falls : (p q e : ℕ) → p < g .states → q < g .states → entry square p q ≡ suc e → suc e < never
+      → nearer g square e p q < g .symbols
 
 -- the symbols that lead from p and q, at e, to a pair at 0
 unfoldable pub path : Automaton → List ℕ → ℕ → ℕ → ℕ → List ℕ
-path g d zero p q = []
-path g d (suc e) p q = nearer g d e p q ∷ path g d e (g .next p (nearer g d e p q)) (g .next q (nearer g d e p q))
+path g square zero p q = []
+path g square (suc e) p q =
+    let a = nearer g square e p q in
+    a ∷ path g square e (g .next p a) (g .next q a)
+
+-- the first of the shortest traces that tell p and q apart, as the square has it
+abbrev pub apart : Automaton → List ℕ → ℕ → ℕ → List ℕ
+apart g square p q = path g square (entry square p q) p q

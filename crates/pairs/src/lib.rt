@@ -2,14 +2,14 @@
 use theory::SQUARE_SIZE;
 use theory::STATE_LIMIT;
 ghost use mathlib.Core.Path.{_≡_};
-ghost use mathlib.Core.Bool.{Bool, cond};
-ghost use Prim.Native.Nat.{ℕ, _+_, _*_, _≤_, _<_};
-ghost use lib.ListN.{length, set};
+ghost use Prim.Native.Nat.{_+_, _*_, _≤_, _<_};
+ghost use lib.ListN.{length};
 ghost use lib.Seq.{sets};
 ghost use Rattle.theory.specs.Automaton.{run};
 ghost use Rattle.theory.specs.Monitor.{stateLimit};
-ghost use Rattle.monitor.specs.Format.{Rows, automatonOf};
-ghost use Rattle.pairs.specs.Square.{never, entry, Squared, Rounds, differing, Blank, Begun, begins, Fresh, leadsWithin, adds, Midway, nearer, Falling, path};
+ghost use Rattle.monitor.specs.Format.{Rows, graph};
+ghost use Rattle.pairs.specs.Square.{never, entry, stored, Squared, Rounds, differing, Blank, Entered};
+ghost use Rattle.pairs.specs.Square.{apartAtOnce, Fresh, leadsWithin, adds, RoundGoesOn, nearer, Falling, apart};
 
 // Not told apart. Any smaller number counts symbols.
 pub const NEVER: usize = 65535;
@@ -17,7 +17,8 @@ pub const NEVER: usize = 65535;
 // The same as an entry of the square.
 const NEVER_ENTRY: u16 = NEVER as u16;
 
-// The two states that one trace leads to from two states, which the caller has from what was sent and from what was received.
+// The two states that one trace leads to from two states: the caller has one from what was sent, the other from what
+// was received.
 pub struct Pair {
     pub sent: usize,
     pub received: usize,
@@ -32,23 +33,28 @@ fn blank() -> [u16; SQUARE_SIZE]
 
 // An entry as a number of symbols.
 fn wide(entry: u16) -> usize
-    ensures { λ r. ⌜ (r ≡ entry) × (r < 65536) ⌝ }
+    ensures { λ r. ⌜ (r ≡ entry)
+        × (r < 65536) ⌝ }
 {
     entry as usize
 }
 
 // What the square holds for two states.
 pub fn entry_at(square: &[u16; SQUARE_SIZE], p: usize, q: usize) -> usize
-    requires { ⌜ (p < stateLimit) × (q < stateLimit) ⌝ }
-    ensures { λ r. ⌜ (r ≡ entry (now (square .entry)) p q) × (r ≤ never) ⌝ }
+    requires { ⌜ (p < stateLimit)
+        × (q < stateLimit) ⌝ }
+    ensures { λ r. ⌜ (r ≡ entry (now (square .entry)) p q)
+        × (r ≤ never) ⌝ }
 {
     wide(square[p * STATE_LIMIT + q])
 }
 
 // Enters 0 for p and q where their outputs differ.
-fn begin_pair(square: &mut [u16; SQUARE_SIZE], outputs: &[u8], p: usize, q: usize)
-    requires { ⌜ (length (now outputs) ≤ stateLimit) × (p < length (now outputs)) × (q < length (now outputs)) ⌝ }
-    ensures { λ _. ⌜ now (square .exit) ≡ cond (differing (now (outputs .entry)) p q) (set (now (square .entry)) (p * stateLimit + q) 0) (now (square .entry)) ⌝ }
+fn enter_pair(square: &mut [u16; SQUARE_SIZE], outputs: &[u8], p: usize, q: usize)
+    requires { ⌜ (length (now outputs) ≤ stateLimit)
+        × (p < length (now outputs))
+        × (q < length (now outputs)) ⌝ }
+    ensures { λ _. ⌜ now (square .exit) ≡ stored (now (square .entry)) p q 0 (differing (now (outputs .entry)) p q) ⌝ }
 {
     if outputs[p] == outputs[q] {
         return;
@@ -57,25 +63,29 @@ fn begin_pair(square: &mut [u16; SQUARE_SIZE], outputs: &[u8], p: usize, q: usiz
 }
 
 // Enters 0 in row p for each state whose output differs from that of p.
-fn begin_row(square: &mut [u16; SQUARE_SIZE], outputs: &[u8], p: usize)
-    requires { ⌜ (length (now outputs) ≤ stateLimit) × (p < length (now outputs)) × Begun (now outputs) (p * stateLimit) (now square) ⌝ }
-    ensures { λ _. ⌜ Begun (now (outputs .entry)) ((p + 1) * stateLimit) (now (square .exit)) ⌝ }
+fn enter_row(square: &mut [u16; SQUARE_SIZE], outputs: &[u8], p: usize)
+    requires { ⌜ (length (now outputs) ≤ stateLimit)
+        × (p < length (now outputs))
+        × Entered (now outputs) (p * stateLimit) (now square) ⌝ }
+    ensures { λ _. ⌜ Entered (now (outputs .entry)) ((p + 1) * stateLimit) (now (square .exit)) ⌝ }
 {
     let mut q = 0;
     while q < outputs.len() {
-        begin_pair(square, outputs, p, q);
+        enter_pair(square, outputs, p, q);
         q += 1;
     }
 }
 
 // The square before the first round: states whose outputs differ are told apart by no symbol.
-fn begin(square: &mut [u16; SQUARE_SIZE], outputs: &[u8])
-    requires { ⌜ (length (now outputs) ≤ stateLimit) × Blank (now square) ⌝ }
-    ensures { λ _. ⌜ Begun (now (outputs .entry)) (length (now (outputs .entry)) * stateLimit) (now (square .exit)) ⌝ }
+fn enter_outputs(square: &mut [u16; SQUARE_SIZE], outputs: &[u8])
+    requires { ⌜ (length (now outputs) ≤ stateLimit)
+        × Blank (now square) ⌝ }
+    ensures { λ _. ⌜ Entered (now (outputs .entry))
+        (length (now (outputs .entry)) * stateLimit) (now (square .exit)) ⌝ }
 {
     let mut p = 0;
     while p < outputs.len() {
-        begin_row(square, outputs, p);
+        enter_row(square, outputs, p);
         p += 1;
     }
 }
@@ -90,8 +100,10 @@ fn leads_within(
     p: usize,
     q: usize,
 ) -> bool
-    requires { ⌜ Rows stateLimit n k (now nexts) × (p < n) × (q < n) ⌝ }
-    ensures { λ b. ⌜ b ≡ leadsWithin (automatonOf n k (now (nexts .entry))) (now (square .entry)) r p q ⌝ }
+    requires { ⌜ Rows stateLimit n k (now nexts)
+        × (p < n)
+        × (q < n) ⌝ }
+    ensures { λ b. ⌜ b ≡ leadsWithin (graph n k (nexts .entry)) (now (square .entry)) r p q ⌝ }
 {
     let mut a = 0;
     while a < k {
@@ -115,9 +127,12 @@ fn refine_pair(
     p: usize,
     q: usize,
 ) -> bool
-    requires { ⌜ Rows stateLimit n k (now nexts) × (r + 1 < never) × (p < n) × (q < n) ⌝ }
-    ensures added { λ b. ⌜ b ≡ adds (automatonOf n k (now (nexts .entry))) (now (square .entry)) r p q ⌝ }
-    ensures square { λ _. ⌜ now (square .exit) ≡ cond (adds (automatonOf n k (now (nexts .entry))) (now (square .entry)) r p q) (set (now (square .entry)) (p * stateLimit + q) (r + 1)) (now (square .entry)) ⌝ }
+    requires { ⌜ Rows stateLimit n k (now nexts)
+        × (r + 1 < never)
+        × (p < n)
+        × (q < n) ⌝ }
+    ensures added { λ b. ⌜ b ≡ adds (graph n k (nexts .entry)) (now (square .entry)) r p q ⌝ }
+    ensures square { λ b. ⌜ now (square .exit) ≡ stored (now (square .entry)) p q (r + 1) b ⌝ }
 {
     if entry_at(square, p, q) != NEVER {
         return false;
@@ -139,9 +154,14 @@ fn refine_row(
     p: usize,
     added: usize,
 ) -> usize
-    requires { ⌜ Rows stateLimit n k (now nexts) × (r + 1 < never) × (p < n) × (added ≤ p * stateLimit) ⌝ }
+    requires { ⌜ Rows stateLimit n k (now nexts)
+        × (r + 1 < never)
+        × (p < n)
+        × (added ≤ p * stateLimit) ⌝ }
     ensures few { λ b. ⌜ b ≤ (p + 1) * stateLimit ⌝ }
-    ensures round { λ b. ⌜ ((ends : ℕ → ℕ → Bool) → Midway (automatonOf n k (now (nexts .entry))) ends r (p * stateLimit) added (now (square .entry)) → Midway (automatonOf n k (now (nexts .entry))) ends r ((p + 1) * stateLimit) b (now (square .exit))) ⌝ }
+    ensures round { λ b. ⌜ RoundGoesOn (graph n k (nexts .entry)) r
+        (p * stateLimit) added (now (square .entry))
+        ((p + 1) * stateLimit) b (now (square .exit)) ⌝ }
 {
     let mut count = added;
     let mut q = 0;
@@ -154,10 +174,14 @@ fn refine_row(
     count
 }
 
-// The round after r: enters r + 1 for every pair that is told apart within r + 1 symbols and not within r. Returns how many, and 0 exactly if there is none.
+// The round after r: enters r + 1 for every pair that is told apart within r + 1 symbols and not within r. Returns how
+// many, and 0 exactly if there is none.
 fn refine_all(square: &mut [u16; SQUARE_SIZE], nexts: &[u8], n: usize, k: usize, r: u16) -> usize
-    requires { ⌜ Rows stateLimit n k (now nexts) × (r + 1 < never) ⌝ }
-    ensures { λ b. ⌜ ((ends : ℕ → ℕ → Bool) → Midway (automatonOf n k (now (nexts .entry))) ends r 0 0 (now (square .entry)) → Midway (automatonOf n k (now (nexts .entry))) ends r (n * stateLimit) b (now (square .exit))) ⌝ }
+    requires { ⌜ Rows stateLimit n k (now nexts)
+        × (r + 1 < never) ⌝ }
+    ensures { λ b. ⌜ RoundGoesOn (graph n k (nexts .entry)) r
+        0 0 (now (square .entry))
+        (n * stateLimit) b (now (square .exit)) ⌝ }
 {
     let mut added = 0;
     let mut p = 0;
@@ -168,12 +192,14 @@ fn refine_all(square: &mut [u16; SQUARE_SIZE], nexts: &[u8], n: usize, k: usize,
     added
 }
 
-// Round by round until a round adds nothing. The pairs that hold 0 are told apart at once; after it every pair holds the fewest
-// symbols that lead to such a pair, or NEVER. Returns how many rounds added a pair.
+// Round by round until a round adds nothing. The pairs that hold 0 are told apart at once; after it every pair holds
+// the fewest symbols that lead to such a pair, or NEVER. Returns how many rounds added a pair.
 fn refine(square: &mut [u16; SQUARE_SIZE], nexts: &[u8], n: usize, k: usize) -> usize
-    requires { ⌜ Rows stateLimit n k (now nexts) × Fresh n (now square) ⌝ }
-    ensures square { λ _. ⌜ Squared (automatonOf n k (now (nexts .entry))) (begins (now (square .entry))) (now (square .exit)) ⌝ }
-    ensures rounds { λ r. ⌜ Rounds (automatonOf n k (now (nexts .entry))) (begins (now (square .entry))) r ⌝ }
+    requires { ⌜ Rows stateLimit n k (now nexts)
+        × Fresh n (now square) ⌝ }
+    ensures square { λ _. ⌜ Squared (graph n k (nexts .entry))
+        (apartAtOnce (now (square .entry))) (now (square .exit)) ⌝ }
+    ensures rounds { λ r. ⌜ Rounds (graph n k (nexts .entry)) (apartAtOnce (now (square .entry))) r ⌝ }
 {
     let mut r = 0u16;
     while refine_all(square, nexts, n, k, r) > 0 {
@@ -184,11 +210,12 @@ fn refine(square: &mut [u16; SQUARE_SIZE], nexts: &[u8], n: usize, k: usize) -> 
 
 // The distance of every two states: the fewest symbols after which their outputs differ.
 pub fn distances(nexts: &[u8], n: usize, k: usize, outputs: &[u8]) -> [u16; SQUARE_SIZE]
-    requires { ⌜ Rows stateLimit n k (now nexts) × (length (now outputs) ≡ n) ⌝ }
-    ensures { λ r. ⌜ Squared (automatonOf n k (now (nexts .entry))) (differing (now (outputs .entry))) r ⌝ }
+    requires { ⌜ Rows stateLimit n k (now nexts)
+        × (length (now outputs) ≡ n) ⌝ }
+    ensures { λ r. ⌜ Squared (graph n k (nexts .entry)) (differing (now (outputs .entry))) r ⌝ }
 {
     let mut square = blank();
-    begin(&mut square, outputs);
+    enter_outputs(&mut square, outputs);
     refine(&mut square, nexts, n, k);
     square
 }
@@ -203,8 +230,10 @@ fn nearer_by(
     p: usize,
     q: usize,
 ) -> usize
-    requires { ⌜ Rows stateLimit n k (now nexts) × (p < n) × (q < n) ⌝ }
-    ensures { λ r. ⌜ r ≡ nearer (automatonOf n k (now (nexts .entry))) (now (square .entry)) distance p q ⌝ }
+    requires { ⌜ Rows stateLimit n k (now nexts)
+        × (p < n)
+        × (q < n) ⌝ }
+    ensures { λ r. ⌜ r ≡ nearer (graph n k (nexts .entry)) (now (square .entry)) distance p q ⌝ }
 {
     let mut a = 0;
     while a < k {
@@ -218,7 +247,8 @@ fn nearer_by(
     a
 }
 
-// Writes the first of the shortest traces that tell p and q apart into the area, from `at` on, and returns the two states it leads to.
+// Writes the first of the shortest traces that tell p and q apart into the area, from `at` on, and returns the two
+// states it leads to.
 pub fn write_apart(
     square: &[u16; SQUARE_SIZE],
     nexts: &[u8],
@@ -229,10 +259,20 @@ pub fn write_apart(
     area: &mut [u8],
     at: usize,
 ) -> Pair
-    requires { ⌜ Rows stateLimit n k (now nexts) × Falling (automatonOf n k (now nexts)) (now square) × (p < n) × (q < n) × (entry (now square) p q < never) × (at + entry (now square) p q ≤ length (now area)) ⌝ }
-    ensures area { λ _. ⌜ now (area .exit) ≡ sets (now (area .entry)) at (path (automatonOf n k (now (nexts .entry))) (now (square .entry)) (entry (now (square .entry)) p q) p q) ⌝ }
-    ensures sent { λ r. ⌜ (r .sent ≡ run (automatonOf n k (now (nexts .entry))) p (path (automatonOf n k (now (nexts .entry))) (now (square .entry)) (entry (now (square .entry)) p q) p q)) × (r .sent < n) ⌝ }
-    ensures received { λ r. ⌜ (r .received ≡ run (automatonOf n k (now (nexts .entry))) q (path (automatonOf n k (now (nexts .entry))) (now (square .entry)) (entry (now (square .entry)) p q) p q)) × (r .received < n) ⌝ }
+    requires { ⌜ Rows stateLimit n k (now nexts)
+        × Falling (graph n k nexts) (now square)
+        × (p < n)
+        × (q < n)
+        × (entry (now square) p q < never)
+        × (at + entry (now square) p q ≤ length (now area)) ⌝ }
+    ensures area { λ _. ⌜ now (area .exit)
+        ≡ sets (now (area .entry)) at (apart (graph n k (nexts .entry)) (now (square .entry)) p q) ⌝ }
+    ensures sent { λ r. ⌜ (r .sent
+        ≡ run (graph n k (nexts .entry)) p (apart (graph n k (nexts .entry)) (now (square .entry)) p q))
+        × (r .sent < n) ⌝ }
+    ensures received { λ r. ⌜ (r .received
+        ≡ run (graph n k (nexts .entry)) q (apart (graph n k (nexts .entry)) (now (square .entry)) p q))
+        × (r .received < n) ⌝ }
 {
     let mut x = p;
     let mut y = q;

@@ -65,13 +65,15 @@ module _ (g : Automaton) where
           (any-at (g .symbols) (leadsTo g q (g .next p a)) a l (eq-eqb (g .next p a) (g .next q a) (ap (λ (z : ℕ). g .next z a) i)))
 
   -- with nothing left to expand, the states seen are those that can be reached
-  pub expanding-last : {s : ℕ} {seen done : ℕ → Bool} → Closed g → s < g .states → Expanding g s seen done → ((q : ℕ) → q < g .states → (seen q && not (done q)) ≡ false)
+  pub expanding-last : {s : ℕ} {seen done : ℕ → Bool} → Closed g → s < g .states → Expanding g s seen done
+      → ((q : ℕ) → q < g .states → (seen q && not (done q)) ≡ false)
       → (q : ℕ) → seen q ≡ (ltb q (g .states) && reachedFrom g s q)
   unfolding Trace run
   expanding-last {s} {seen} {done} c l x none q =
       both-ways
       (λ t. (let r = x .sound q t in and-both (ltb q (g .states)) (reachedFrom g s q) (lt-ltb q (g .states) (inside r)) (reached-complete c l r)))
-      (λ t. (let r = reached-sound g s q (and-right (ltb q (g .states)) (reachedFrom g s q) t) in subst (λ (p : ℕ). seen p ≡ true) (r .arrives) (along s (r .word) l (x .begun) (r .trace))))
+      (λ t. (let r = reached-sound g s q (and-right (ltb q (g .states)) (reachedFrom g s q) t) in
+      subst (λ (p : ℕ). seen p ≡ true) (r .arrives) (along s (r .word) l (x .begun) (r .trace))))
     where
       inside : {p : ℕ} → Reaches g s p → p < g .states
       inside r = subst (λ (p : ℕ). p < g .states) (r .arrives) (run-in c s (r .word) l (r .trace))
@@ -139,7 +141,8 @@ hits-through {g} {f} {wide} sound q h =
       passes = ap f (run-append g q (h .word) (m .word)) ∙ m .passes;
     }
 
-pub widening-turn : {g : Automaton} {f wide : ℕ → Bool} (wider : ℕ → Bool) → Widening g f wide → ((p : ℕ) → wider p ≡ spread g wide (g .states) p) → Widening g f wider
+pub widening-turn : {g : Automaton} {f wide : ℕ → Bool} (wider : ℕ → Bool) → Widening g f wide → ((p : ℕ) → wider p ≡ spread g wide (g .states) p)
+    → Widening g f wider
 widening-turn {g} {f} {wide} wider w e = record {
   keeps = λ q t. e q ∙ spread-keeps g wide (g .states) q (w .keeps q t);
   sound = λ q t. hits-through (w .sound) q (spread-adds g wide (g .states) q (sym (e q) ∙ t) .0);
@@ -152,7 +155,9 @@ pub widening-last : {g : Automaton} {f wide : ℕ → Bool} → Closed g → Wid
 unfolding Trace run
 widening-last {g} {f} {wide} c w full q =
     both-ways
-    (λ e. ⊎-elim (or-left (f q) (ltb q (g .states) && leads g f q)) (λ l. or-right (f q) (ltb q (g .states) && leads g f q) (and-both (ltb q (g .states)) (leads g f q) (lt-ltb q (g .states) l) (leads-complete g f c q l (w .sound q e)))) (w .inside q e))
+    (λ e. ⊎-elim (or-left (f q) (ltb q (g .states) && leads g f q))
+    (λ l. or-right (f q) (ltb q (g .states) && leads g f q)
+    (and-both (ltb q (g .states)) (leads g f q) (lt-ltb q (g .states) l) (leads-complete g f c q l (w .sound q e)))) (w .inside q e))
     (λ e. ⊎-elim (w .keeps q) reaches (or-cases (f q) (ltb q (g .states) && leads g f q) e))
   where
     back : (p : ℕ) (v : List ℕ) → p < g .states → Trace g v → f (run g p v) ≡ true → wide p ≡ true

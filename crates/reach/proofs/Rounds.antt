@@ -15,7 +15,8 @@ use Rattle.reach.proofs.Steps.{with-in}
 
 -- ---- expanding the lowest state q that is left
 
-pub expand-first : (g : Automaton) (limit s : ℕ) (none seen done : ℕ → Bool) → s < limit → ((p : ℕ) → none p ≡ false) → ((p : ℕ) → seen p ≡ (none p || (eqb p s && ltb s limit)))
+pub expand-first : (g : Automaton) (limit s : ℕ) (none seen done : ℕ → Bool) → s < limit → ((p : ℕ) → none p ≡ false)
+    → ((p : ℕ) → seen p ≡ (none p || (eqb p s && ltb s limit)))
     → ((p : ℕ) → done p ≡ false) → Expanding g s seen done
 expand-first g limit s none seen done l n e d =
     expanding-first g s seen done (λ p. with-in limit s none seen l e p ∙ ap (λ (b : Bool). b || eqb p s) (n p)) d
@@ -42,13 +43,12 @@ module _ {g : Automaton} {s : ℕ} {seen done : ℕ → Bool} (x : Expanding g s
 
       pub expand-less : limit - count limit done′ < limit - count limit done
       expand-less =
-          omega (
-            arith,
-            count-more limit done done′ (λ p _ t. one-more p ∙ or-left (done p) (eqb p q) t) q (lt-of-lt-of-le some small) not-done (one-more q ∙ or-right (done q) (eqb q q) (eq-eqb q q refl)),
-            count-le limit done′,
-          )
+          let here = one-more q ∙ or-right (done q) (eqb q q) (eq-eqb q q refl) in
+          let keeps : (p : ℕ) → p < limit → done p ≡ true → done′ p ≡ true = λ p _ t. one-more p ∙ or-left (done p) (eqb p q) t in
+          omega (arith, count-more limit done done′ keeps q (lt-of-lt-of-le some small) not-done here, count-le limit done′)
 
-      pub expand-turn : (out seen′ : ℕ → Bool) → ((p : ℕ) → out p ≡ any (g .symbols) (leadsTo g q p)) → ((p : ℕ) → seen′ p ≡ (seen p || out p)) → Expanding g s seen′ done′
+      pub expand-turn : (out seen′ : ℕ → Bool) → ((p : ℕ) → out p ≡ any (g .symbols) (leadsTo g q p)) → ((p : ℕ) → seen′ p ≡ (seen p || out p))
+          → Expanding g s seen′ done′
       expand-turn out seen′ o e = expanding-turn g seen′ done′ q x is-seen one-more (λ p. e p ∙ ap (λ (b : Bool). seen p || b) (o p))
 
 -- ---- widening by all states

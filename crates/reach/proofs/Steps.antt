@@ -9,7 +9,7 @@ use lib.Dec.{eqb, ltb}
 use borrow.Author.Tests.{eqb-true, lt-ltb}
 use Rattle.theory.specs.Below.{any}
 use Rattle.theory.specs.Automaton.{Automaton}
-use Rattle.theory.proofs.Below.{both-ways, or-cases, or-left, and-left, any-at, any-more}
+use Rattle.theory.proofs.Below.{both-ways, or-cases, or-left, and-left, any-more}
 use Rattle.reach.specs.Closure.{leadsTo, leadsInto, widened, spread}
 
 -- a state below the limit is added as it stands
@@ -19,28 +19,19 @@ with-in limit q old new l e p = e p ∙ rw (lt-ltb q limit l, and-true)
 pub any-end : {a k : ℕ} (f : ℕ → Bool) → a ≤ k → k ≤ a → any a f ≡ any k f
 any-end f l h = ap (λ (x : ℕ). any x f) (le-antisymm l h)
 
-module _ (g : Automaton) (q a : ℕ) where
-  -- the set that holds what the first a symbols lead to, with what the next one leads to
-  pub successors-turn : (limit s : ℕ) (old new : ℕ → Bool) → s ≡ g .next q a → s < limit → ((p : ℕ) → new p ≡ (old p || (eqb p s && ltb s limit)))
-      → ((p : ℕ) → old p ≡ any a (leadsTo g q p)) → (p : ℕ) → new p ≡ any (a + 1) (leadsTo g q p)
-  successors-turn limit s old new e l more o p =
-      with-in limit s old new l more p
-      ∙ rw (o p, e) (sym (any-more a (leadsTo g q p)))
-
-  module _ (f : ℕ → Bool) (s : ℕ) (e : s ≡ g .next q a) where
-    pub enters-here : {b : Bool} → b ≡ f s → b ≡ true → a < g .symbols → true ≡ any (g .symbols) (leadsInto g f q)
-    enters-here h t l = sym (any-at (g .symbols) (leadsInto g f q) a l (ap f (sym e) ∙ sym h ∙ t))
-
-    pub enters-turn : {b : Bool} → b ≡ f s → b ≡ false → false ≡ any a (leadsInto g f q) → false ≡ any (a + 1) (leadsInto g f q)
-    enters-turn h t o = sym (any-more a (leadsInto g f q) ∙ rw (← o) (ap f (sym e) ∙ sym h ∙ t))
+-- the set that holds what the first a symbols lead to, with what the next one leads to
+pub successors-turn : (g : Automaton) (q a limit s : ℕ) (old new : ℕ → Bool) → s ≡ g .next q a → s < limit
+    → ((p : ℕ) → new p ≡ (old p || (eqb p s && ltb s limit))) → ((p : ℕ) → old p ≡ any a (leadsTo g q p)) → (p : ℕ) → new p ≡ any (a + 1) (leadsTo g q p)
+successors-turn g q a limit s old new e l more o p = with-in limit s old new l more p ∙ rw (o p, e) (sym (any-more a (leadsTo g q p)))
 
 -- ---- widening by one state: q is in already, or is added, or no symbol leads from it into the set
 
 module _ (g : Automaton) (f : ℕ → Bool) (q : ℕ) where
   pub widen-old : {b : Bool} → b ≡ f q → b ≡ true → (p : ℕ) → f p ≡ widened g f q p
   widen-old h t p =
+      let new = any (g .symbols) (leadsInto g f q) in
       both-ways (or-left (f p) _)
-      (λ e. ⊎-elim (λ o. o) (λ n. ap f (eqb-true p q (and-left (eqb p q) (any (g .symbols) (leadsInto g f q)) n)) ∙ sym h ∙ t) (or-cases (f p) (eqb p q && any (g .symbols) (leadsInto g f q)) e))
+      (λ e. ⊎-elim (λ o. o) (λ n. ap f (eqb-true p q (and-left (eqb p q) new n)) ∙ sym h ∙ t) (or-cases (f p) (eqb p q && new) e))
 
   pub widen-new : (limit : ℕ) (new : ℕ → Bool) {b : Bool} → q < limit → b ≡ any (g .symbols) (leadsInto g f q) → b ≡ true
       → ((p : ℕ) → new p ≡ (f p || (eqb p q && ltb q limit))) → (p : ℕ) → new p ≡ widened g f q p

@@ -8,13 +8,14 @@ ghost use Rattle.theory.specs.Below.{any};
 ghost use Rattle.theory.specs.Automaton.{leads, reachedFrom};
 ghost use Rattle.theory.specs.Monitor.{stateLimit};
 ghost use Rattle.state_set.specs.Member.{member, Exactly};
-ghost use Rattle.monitor.specs.Format.{Rows, automatonOf};
+ghost use Rattle.monitor.specs.Format.{Rows, graph};
 ghost use Rattle.reach.specs.Closure.{leadsTo, leadsInto, widened, spread};
 
 // The states that one symbol leads to from q.
 fn successors(nexts: &[u8], n: usize, k: usize, q: usize) -> StateSet
-    requires { ⌜ Rows stateLimit n k (now nexts) × (q < n) ⌝ }
-    ensures { λ r. ⌜ ((p : ℕ) → member r p ≡ any k (leadsTo (automatonOf n k (now (nexts .entry))) q p)) ⌝ }
+    requires { ⌜ Rows stateLimit n k (now nexts)
+        × (q < n) ⌝ }
+    ensures { λ r. ⌜ ((p : ℕ) → member r p ≡ any k (leadsTo (graph n k (nexts .entry)) q p)) ⌝ }
 {
     let mut set = StateSet::empty();
     let mut a = 0;
@@ -27,8 +28,9 @@ fn successors(nexts: &[u8], n: usize, k: usize, q: usize) -> StateSet
 
 // The states that can be reached from start: the lowest state still to expand is expanded until none is left.
 pub fn reachable(nexts: &[u8], n: usize, k: usize, start: usize) -> StateSet
-    requires { ⌜ Rows stateLimit n k (now nexts) × (start < n) ⌝ }
-    ensures { λ r. ⌜ Exactly n (reachedFrom (automatonOf n k (now (nexts .entry))) start) r ⌝ }
+    requires { ⌜ Rows stateLimit n k (now nexts)
+        × (start < n) ⌝ }
+    ensures { λ r. ⌜ Exactly n (reachedFrom (graph n k (nexts .entry)) start) r ⌝ }
 {
     let mut seen = StateSet::empty().with(start);
     let mut expanded = StateSet::empty();
@@ -44,8 +46,9 @@ pub fn reachable(nexts: &[u8], n: usize, k: usize, start: usize) -> StateSet
 
 // Whether some symbol leads from q into the set.
 fn enters(nexts: &[u8], n: usize, k: usize, q: usize, set: StateSet) -> bool
-    requires { ⌜ Rows stateLimit n k (now nexts) × (q < n) ⌝ }
-    ensures { λ r. ⌜ r ≡ any k (leadsInto (automatonOf n k (now (nexts .entry))) (member set) q) ⌝ }
+    requires { ⌜ Rows stateLimit n k (now nexts)
+        × (q < n) ⌝ }
+    ensures { λ r. ⌜ r ≡ any k (leadsInto (graph n k (nexts .entry)) (member set) q) ⌝ }
 {
     let mut a = 0;
     while a < k {
@@ -59,8 +62,9 @@ fn enters(nexts: &[u8], n: usize, k: usize, q: usize, set: StateSet) -> bool
 
 // The set, with q in it too where some symbol leads from q into the set.
 fn widen(nexts: &[u8], n: usize, k: usize, q: usize, set: StateSet) -> StateSet
-    requires { ⌜ Rows stateLimit n k (now nexts) × (q < n) ⌝ }
-    ensures { λ r. ⌜ ((p : ℕ) → member r p ≡ widened (automatonOf n k (now (nexts .entry))) (member set) q p) ⌝ }
+    requires { ⌜ Rows stateLimit n k (now nexts)
+        × (q < n) ⌝ }
+    ensures { λ r. ⌜ ((p : ℕ) → member r p ≡ widened (graph n k (nexts .entry)) (member set) q p) ⌝ }
 {
     if set.has(q) {
         return set;
@@ -74,7 +78,7 @@ fn widen(nexts: &[u8], n: usize, k: usize, q: usize, set: StateSet) -> StateSet
 // The set widened by each state in turn.
 fn widen_all(nexts: &[u8], n: usize, k: usize, set: StateSet) -> StateSet
     requires { ⌜ Rows stateLimit n k (now nexts) ⌝ }
-    ensures { λ r. ⌜ ((p : ℕ) → member r p ≡ spread (automatonOf n k (now (nexts .entry))) (member set) n p) ⌝ }
+    ensures { λ r. ⌜ ((p : ℕ) → member r p ≡ spread (graph n k (nexts .entry)) (member set) n p) ⌝ }
 {
     let mut wider = set;
     let mut q = 0;
@@ -88,7 +92,8 @@ fn widen_all(nexts: &[u8], n: usize, k: usize, set: StateSet) -> StateSet
 // The targets, and the states from which some trace leads into them: widened until nothing is added.
 pub fn reaching(nexts: &[u8], n: usize, k: usize, targets: StateSet) -> StateSet
     requires { ⌜ Rows stateLimit n k (now nexts) ⌝ }
-    ensures { λ r. ⌜ ((p : ℕ) → member r p ≡ (member targets p || (ltb p n && leads (automatonOf n k (now (nexts .entry))) (member targets) p))) ⌝ }
+    ensures { λ r. ⌜ ((p : ℕ) → member r p
+        ≡ (member targets p || (ltb p n && leads (graph n k (nexts .entry)) (member targets) p))) ⌝ }
 {
     let mut set = targets;
     loop {

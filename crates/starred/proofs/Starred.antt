@@ -44,7 +44,8 @@ Computed (classed b q c) = Accepted b × (q < statesOf b) × (c ≡ class (monit
 Computed (immune b set) = Accepted b × UnderBoth (λ d. Calm (monitorOf b) d set)
 Computed (distant b d set l) = Accepted b × (l ≤ horizon (statesOf b)) × (Option·map (λ s. length (sentTrace s)) (early (monitorOf b) d set l) ≡ some l)
 Computed (witnessed b set sent before replacement) =
-    Accepted b × (length sent ≤ horizon (statesOf b)) × UnderBoth (λ d. Option·map said (early (monitorOf b) d set (length sent)) ≡ some (sent, before, replacement))
+    Accepted b × (length sent ≤ horizon (statesOf b))
+    × UnderBoth (λ d. Option·map said (early (monitorOf b) d set (length sent)) ≡ some (sent, before, replacement))
 
 -- every fact of a list is computed
 infixr 30 _also_
@@ -69,7 +70,8 @@ module _ (m : Monitor) (w : WellFormed stateLimit m) (d set : ℕ) where
   immune-by h = far none (found-never g (differ m d) (faultsOf m set) (w .closed) (steps-good g set) (m .start) (w .start-in) h)
 
   -- what is computed of an early witness is so of the first
-  first-by : {X : Type 0} (f : Series → X) (x : X) (l : ℕ) → l ≤ horizon (g .states) → Option·map f (early m d set l) ≡ some x → (s : Series) × (firstWitness m d set ≡ some s) × (f s ≡ x)
+  first-by : {X : Type 0} (f : Series → X) (x : X) (l : ℕ) → l ≤ horizon (g .states) → Option·map f (early m d set l) ≡ some x
+      → (s : Series) × (firstWitness m d set ≡ some s) × (f s ≡ x)
   first-by f x l within h =
       let r = map-eq-some-iff f (early m d set l) .0 h in
       (r .0, found-early g (differ m d) (faultsOf m set) (w .closed) (steps-good g set) (m .start) (w .start-in) l (r .0) within (r .1), r .2)
@@ -77,7 +79,8 @@ module _ (m : Monitor) (w : WellFormed stateLimit m) (d set : ℕ) where
   distant-by : (l : ℕ) → l ≤ horizon (g .states) → Option·map (λ s. length (sentTrace s)) (early m d set l) ≡ some l → Distance m d set (number l)
   distant-by l within h = (let r = first-by (λ s. length (sentTrace s)) l l within h in far-as (r .0) (r .1) (r .2))
 
-  witnessed-by : (sent : List ℕ) (before replacement : ℕ) → length sent ≤ horizon (g .states) → Option·map said (early m d set (length sent)) ≡ some (sent, before, replacement) → Witnessed m d set sent before replacement
+  witnessed-by : (sent : List ℕ) (before replacement : ℕ) → length sent ≤ horizon (g .states)
+      → Option·map said (early m d set (length sent)) ≡ some (sent, before, replacement) → Witnessed m d set sent before replacement
   witnessed-by sent before replacement within h =
       let r = first-by said (sent, before, replacement) (length sent) within h in
       record {
@@ -92,7 +95,9 @@ module _ (m : Monitor) (w : WellFormed stateLimit m) (d set : ℕ) where
 holds-by : (f : Fact) → Computed f → Holds f
 holds-by (monitorable b r) (e, h) = (e, published stateLimit b e .table r .1 h)
 holds-by (classed b q c) (e, l, h) = (e, published stateLimit b e .classes q l c .1 h)
-holds-by (immune b set) (e, h) = (let w = accepted-table stateLimit b e .well-formed in (e, (immune-by (monitorOf b) w 3 set (h .0), immune-by (monitorOf b) w 6 set (h .1))))
+holds-by (immune b set) (e, h) =
+    let w = accepted-table stateLimit b e .well-formed in
+    (e, (immune-by (monitorOf b) w 3 set (h .0), immune-by (monitorOf b) w 6 set (h .1)))
 holds-by (distant b d set l) (e, within, h) = (e, distant-by (monitorOf b) (accepted-table stateLimit b e .well-formed) d set l within h)
 holds-by (witnessed b set sent before replacement) (e, within, h) =
     let w = accepted-table stateLimit b e .well-formed in

@@ -33,8 +33,9 @@ G = 5 ∷ 2 ∷ 0 ∷ 0 ∷ 0 ∷ 1 ∷ 0 ∷ 2 ∷ 3 ∷ 1 ∷ 1 ∷ 2 ∷ 2 �
 abbrev pub H : List ℕ
 H = 2 ∷ 1 ∷ 0 ∷ 0 ∷ 1 ∷ 1 ∷ 1 ∷ []
 
--- A table has a monitorability, or a state of it has a class. Under a fault set ("loss 1, corruption 2, repeat 4, swap 8") a table is immune, has a distance by one
--- reading, or has a first witness with a sent trace, a number of messages before the fault, and a replacement ("0 except for corruption").
+-- A table has a monitorability, or a state of it has a class. Under a fault set ("loss 1, corruption 2, repeat 4, swap
+-- 8") a table is immune, has a distance by one reading, or has a first witness with a sent trace, a number of messages
+-- before the fault, and a replacement ("0 except for corruption").
 pub data Fact : Type 0 where
   monitorable : (table : List ℕ) (monitorability : ℕ) → Fact
   classed : (table : List ℕ) (state class : ℕ) → Fact
@@ -65,7 +66,8 @@ Holds (monitorable b r) = Accepted b × Monitorability (monitorOf b) r
 Holds (classed b q c) = Accepted b × Class (monitorOf b) q c
 Holds (immune b set) = Accepted b × UnderBoth (λ d. Distance (monitorOf b) d set missing)
 Holds (distant b d set l) = Accepted b × Distance (monitorOf b) d set (number l)
-Holds (witnessed b set sent before replacement) = Accepted b × UnderBoth (λ d. Witnessed (monitorOf b) d set sent before replacement)
+Holds (witnessed b set sent before replacement) =
+    Accepted b × UnderBoth (λ d. Witnessed (monitorOf b) d set sent before replacement)
 
 -- every fact of a list holds
 abbrev pub Hold : List Fact → Type 0

@@ -10,16 +10,9 @@ use Rattle.theory.specs.Answer.{Question, Answer, refused, answered, ask
 never : {number place : ℕ} {values : List ℕ} → refused number place ≡ answered values → ⊥
 never e = let z : _≡_ {A = ℕ} 0 1 = cc in omega arith
 
-valuesOf : Answer → List ℕ
-valuesOf (refused number place) = []
-valuesOf (answered values) = values
-
-valuesOf-same : {v w : List ℕ} → answered v ≡ answered w → v ≡ w
-unfolding valuesOf
-valuesOf-same e = ap valuesOf e
-
 -- a refusal by the first list is the answer, whatever would be asked after it
-pub asks-refused : (qs more : List Question) (values given : List ℕ) {number place : ℕ} → asks qs given ≡ refused number place → asks (qs ++ more) values ≡ refused number place
+pub asks-refused : (qs more : List Question) (values given : List ℕ) {number place : ℕ} → asks qs given ≡ refused number place
+    → asks (qs ++ more) values ≡ refused number place
 asks-refused [] more values given e = absurd (let z : _≡_ {A = ℕ} 0 1 = cc in omega arith)
 asks-refused (q ∷ qs) more values given {number} {place} e = go (q .yes) e (asks-refused qs more values given)
   where
@@ -29,50 +22,37 @@ asks-refused (q ∷ qs) more values given {number} {place} e = go (q .yes) e (as
     go true h rest = rest h
     go false h rest = h
 
+-- every question of a list without a no was answered yes
+pub asks-yes : (q : Question) (qs : List Question) (values : List ℕ) {given : List ℕ} → asks (q ∷ qs) values ≡ answered given
+    → (q .yes ≡ true) × (asks qs values ≡ answered given)
+asks-yes q qs values {given} e = go (q .yes) refl e
+  where
+    go : (b : Bool) → q .yes ≡ b → cond b (asks qs values) (refused (q .number) (q .place)) ≡ answered given
+        → (q .yes ≡ true) × (asks qs values ≡ answered given)
+    go true p h = (p, h)
+    go false p h = absurd (never h)
+
 -- after a first list without a no, the second list decides
 pub asks-passed : (qs more : List Question) (values given : List ℕ) → asks qs given ≡ answered given → asks (qs ++ more) values ≡ asks more values
 asks-passed [] more values given e = refl
-asks-passed (q ∷ qs) more values given e = go (q .yes) e (asks-passed qs more values given)
-  where
-    go : (b : Bool) → cond b (asks qs given) (refused (q .number) (q .place)) ≡ answered given
-        → (asks qs given ≡ answered given → asks (qs ++ more) values ≡ asks more values)
-        → cond b (asks (qs ++ more) values) (refused (q .number) (q .place)) ≡ asks more values
-    go true h rest = rest h
-    go false h rest = absurd (never h)
+asks-passed (q ∷ qs) more values given e = (let y = asks-yes q qs given e in rw (y .0) (asks-passed qs more values given (y .1)))
 
 -- what is answered are the values
 pub asks-values : (qs : List Question) (values : List ℕ) {given : List ℕ} → asks qs values ≡ answered given → values ≡ given
-asks-values [] values e = valuesOf-same e
-asks-values (q ∷ qs) values {given} e = go (q .yes) e (asks-values qs values)
-  where
-    go : (b : Bool) → cond b (asks qs values) (refused (q .number) (q .place)) ≡ answered given → (asks qs values ≡ answered given → values ≡ given) → values ≡ given
-    go true h rest = rest h
-    go false h rest = absurd (never h)
+asks-values [] values e = cc
+asks-values (q ∷ qs) values e = asks-values qs values (asks-yes q qs values e .1)
 
--- whether a list of questions has a no does not hang on the values
+-- whether a list of questions has a no, and which, does not hang on the values
 pub asks-other : (qs : List Question) (values other : List ℕ) {given : List ℕ} → asks qs values ≡ answered given → asks qs other ≡ answered other
 asks-other [] values other e = refl
-asks-other (q ∷ qs) values other {given} e = go (q .yes) e (asks-other qs values other)
-  where
-    go : (b : Bool) → cond b (asks qs values) (refused (q .number) (q .place)) ≡ answered given
-        → (asks qs values ≡ answered given → asks qs other ≡ answered other)
-        → cond b (asks qs other) (refused (q .number) (q .place)) ≡ answered other
-    go true h rest = rest h
-    go false h rest = absurd (never h)
+asks-other (q ∷ qs) values other e = (let y = asks-yes q qs values e in rw (y .0) (asks-other qs values other (y .1)))
 
 pub asks-refuses : (qs : List Question) (values other : List ℕ) {number place : ℕ} → asks qs values ≡ refused number place → asks qs other ≡ refused number place
 asks-refuses qs values other e = ap (λ (l : List Question). asks l other) (sym (append-nil qs)) ∙ asks-refused qs [] other values e
 
--- every question of a list without a no was answered yes
-pub asks-yes : (q : Question) (qs : List Question) (given : List ℕ) → asks (q ∷ qs) given ≡ answered given → (q .yes ≡ true) × (asks qs given ≡ answered given)
-asks-yes q qs given e = go (q .yes) refl e
-  where
-    go : (b : Bool) → q .yes ≡ b → cond b (asks qs given) (refused (q .number) (q .place)) ≡ answered given → (q .yes ≡ true) × (asks qs given ≡ answered given)
-    go true p h = (p, h)
-    go false p h = absurd (never h)
-
 -- a list of questions without a no has none in its first part and none in its second
-pub asks-both : (qs more : List Question) (given : List ℕ) → asks (qs ++ more) given ≡ answered given → (asks qs given ≡ answered given) × (asks more given ≡ answered given)
+pub asks-both : (qs more : List Question) (given : List ℕ) → asks (qs ++ more) given ≡ answered given
+    → (asks qs given ≡ answered given) × (asks more given ≡ answered given)
 asks-both [] more given e = (refl, e)
 asks-both (q ∷ qs) more given e =
     let y = asks-yes q (qs ++ more) given e in

@@ -2,7 +2,7 @@
 use mathlib.Core.Path.{_≡_, refl, sym, ap, _∙_, subst}
 use mathlib.Core.Bool.{Bool, true, false, cond, _&&_, _||_, true≢false, or-comm}
 use mathlib.Core.Logic.{_⊎_, inl, inr, ⊎-elim}
-use Prim.Native.Nat.{ℕ, zero, suc, _+_, _≤_, _<_}
+use Prim.Native.Nat.{ℕ, zero, suc, _+_, _≤_, _<_, suc-le-suc}
 use native.Mathlib.Nat.{le-refl, le-of-suc-le-suc, not-suc-le-zero, eq-or-lt-of-le, le-of-lt}
 use native.Mathlib.Numerals.{add-one}
 use native.Mathlib.Omega.{arith}
@@ -66,7 +66,8 @@ pub any-at : (n : ℕ) (f : ℕ → Bool) (i : ℕ) → i < n → f i ≡ true �
 unfolding any
 any-at zero f i l e = absurd (not-suc-le-zero l)
 any-at (suc n) f i l e =
-    ⊎-elim (λ q. or-left (f n) (any n f) (subst (λ (x : ℕ). f x ≡ true) q e)) (λ s. or-right (f n) (any n f) (any-at n f i s e)) (eq-or-lt-of-le (le-of-suc-le-suc l))
+    ⊎-elim (λ q. or-left (f n) (any n f) (subst (λ (x : ℕ). f x ≡ true) q e)) (λ s. or-right (f n) (any n f) (any-at n f i s e))
+    (eq-or-lt-of-le (le-of-suc-le-suc l))
 
 pub any-find : (n : ℕ) (f : ℕ → Bool) → any n f ≡ true → (i : ℕ) × (i < n) × (f i ≡ true)
 unfolding any
@@ -126,15 +127,10 @@ unfolding count
 count-more zero f g h x l e t = absurd (not-suc-le-zero l)
 count-more (suc n) f g h x l e t =
     ⊎-elim
-    (λ q. here (f n) (g n) (subst (λ (y : ℕ). f y ≡ false) q e) (subst (λ (y : ℕ). g y ≡ true) q t) (count-mono n f g (λ i s. h i (omega (arith, s)))))
+    (λ q. rw (subst (λ (y : ℕ). f y ≡ false) q e, subst (λ (y : ℕ). g y ≡ true) q t) (suc-le-suc (count-mono n f g (λ i s. h i (omega (arith, s))))))
     (λ s. there (f n) (g n) (h n (le-refl (suc n))) (count-more n f g (λ i r. h i (omega (arith, r))) x s e t))
     (eq-or-lt-of-le (le-of-suc-le-suc l))
   where
-    here : (a b : Bool) → a ≡ false → b ≡ true → count n f ≤ count n g → cond a (suc (count n f)) (count n f) < cond b (suc (count n g)) (count n g)
-    here true b p q m = absurd (clash refl p)
-    here false true p q m = omega arith
-    here false false p q m = absurd (clash q refl)
-
     there : (a b : Bool) → (a ≡ true → b ≡ true) → count n f < count n g → cond a (suc (count n f)) (count n f) < cond b (suc (count n g)) (count n g)
     there true true i m = omega arith
     there true false i m = absurd (clash (i refl) refl)
@@ -222,7 +218,8 @@ unfolding first
 first-here f a zero h = absurd (omega arith)
 first-here f a (suc c) h = go (f a) refl h (first-here f (suc a) c)
   where
-    go : (b : Bool) → f a ≡ b → cond b a (first f (suc a) c) < a + suc c → (first f (suc a) c < suc a + c → f (first f (suc a) c) ≡ true) → f (cond b a (first f (suc a) c)) ≡ true
+    go : (b : Bool) → f a ≡ b → cond b a (first f (suc a) c) < a + suc c → (first f (suc a) c < suc a + c → f (first f (suc a) c) ≡ true)
+        → f (cond b a (first f (suc a) c)) ≡ true
     go true e g next = e
     go false e g next = next (omega arith)
 

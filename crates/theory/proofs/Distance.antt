@@ -1,26 +1,27 @@
 -- Chains of faults: one fault decides immunity; two sets together; any number of faults without repetition; six classes against three marks.
 use mathlib.Core.Path.{_≡_, refl, sym, ap, _∙_, subst}
 use mathlib.Core.Bool.{Bool, true, false, not}
-use mathlib.Core.List.{List, [], _∷_, _++_}
+use mathlib.Core.List.{List, [], _∷_}
 use mathlib.Core.Logic.{_↔_, _⊎_, inl, inr, ⊎-elim}
 use mathlib.Core.Option.{some}
-use Prim.Native.Nat.{ℕ, zero, suc, _+_, _≤_, _<_}
+use Prim.Native.Nat.{ℕ, zero, suc, _≤_, _<_}
 use native.Mathlib.Nat.{le-refl}
 use native.Mathlib.Omega.{arith}
 use lib.Dec.{eqb}
-use lib.ListN.{length, length-append, getD}
+use lib.ListN.{length, getD}
 use borrow.Author.Tests.{eqb-true, eqb-false, ne-eqb, not-true}
 use Rattle.theory.specs.Lists.{In}
 use Rattle.theory.specs.Automaton.{Automaton, Trace, run, leads}
 use Rattle.theory.specs.Monitor.{Monitor, WellFormed, classFrom, class, reading, marked}
 use Rattle.theory.specs.Faults.{FaultStep, holds, repetition, together}
-use Rattle.theory.specs.Series.{Series, sentTrace, receivedTrace, Precedes}
+use Rattle.theory.specs.Series.{Series, sentTrace, receivedTrace, Precedes, Valid}
 use Rattle.theory.specs.Extent.{number, missing, Shortest, smaller, AtMost}
-use Rattle.theory.specs.Distance.{Faulted, Joined, itself, forth, back, Chained, end, then, differ, reads, faultsOf, Harmed, HarmedBySeveral, Distance, DistanceOfSeveral, Witness, FirstWitness}
+use Rattle.theory.specs.Distance.{Faulted, Joined, itself, forth, back, Chained, end, then, differ, reads, faultsOf, Harmed, HarmedBySeveral, Distance}
+use Rattle.theory.specs.Distance.{DistanceOfSeveral, Witness, FirstWitness}
 use Rattle.theory.specs.Computed.{firstWitness, distance}
 use Rattle.theory.proofs.Reach.{run-in}
 use Rattle.theory.proofs.Faults.{Good, steps-good, steps-shrink, steps-rise, of-either, first-of-two, second-of-two}
-use Rattle.theory.proofs.Witness.{sent-length, sent-trace, received-trace, First, first-harms, extent-exact}
+use Rattle.theory.proofs.Witness.{parts-length, sent-length, sent-trace, received-trace, First, first-harms, extent-exact}
 use Rattle.theory.proofs.Order.{precedes-not-itself, precedes-then}
 use Rattle.theory.proofs.Extent.{shortest-one, shortest-wider, shortest-same, shortest-either}
 
@@ -79,7 +80,8 @@ module _ (m : Monitor) (d : ℕ) where
 
     -- where all joined traces read alike no trace is harmed, since a fault joins sent and received
     pub alike-immune : ((x y : List ℕ) → Joined g F x y → reads m d x ≡ reads m d y) → Immune
-    alike-immune alike w h = differ-not w (h .received) (h .differs) (alike w (h .received) (forth (h .fault) (itself (received-is-trace g F (steps-good g set) (h .fault)))))
+    alike-immune alike w h =
+        differ-not w (h .received) (h .differs) (alike w (h .received) (forth (h .fault) (itself (received-is-trace g F (steps-good g set) (h .fault)))))
 
     -- ---- any number of faults
 
@@ -87,15 +89,13 @@ module _ (m : Monitor) (d : ℕ) where
     shrinks without {x} {y} f =
         let s = f .by in
         let r = steps-shrink set (g .symbols) without (s .fault) (f .valid .known) in
-        let a : length x ≡ length (s .before) + (length (s .fault .sent) + length (s .after)) = ap length (f .is-sent) ∙ long (s .before) (s .fault .sent) (s .after) in
-        let b : length y ≡ length (s .before) + (length (s .fault .received) + length (s .after)) = ap length (f .is-received) ∙ long (s .before) (s .fault .received) (s .after) in
+        let a = ap length (f .is-sent) ∙ parts-length (s .before) (s .fault .sent) (s .after) in
+        let b = ap length (f .is-received) ∙ parts-length (s .before) (s .fault .received) (s .after) in
         omega (arith, r, a, b)
-      where
-        long : (u v w : List ℕ) → length (u ++ (v ++ w)) ≡ length u + (length v + length w)
-        long u v w = length-append u (v ++ w) ∙ ap (λ (l : ℕ). length u + l) (length-append v w)
 
     -- some single fault of a chain changes the reading if the whole chain does; the trace it strikes is no longer than the first one
-    link : holds set repetition ≡ false → {x y : List ℕ} → Chained g F x y → differ m d (run g (m .start) x) (run g (m .start) y) ≡ true → (v : List ℕ) × Harmed m d set v × (length v ≤ length x)
+    link : holds set repetition ≡ false → {x y : List ℕ} → Chained g F x y → differ m d (run g (m .start) x) (run g (m .start) y) ≡ true
+        → (v : List ℕ) × Harmed m d set v × (length v ≤ length x)
     link without (end {x} t) e = absurd (differ-not x x e refl)
     link without (then {x} {y} {z} f c) e =
         ⊎-elim
@@ -106,45 +106,31 @@ module _ (m : Monitor) (d : ℕ) where
         (alike-or-differ x y)
 
     pub one-of-several : (w : List ℕ) → Harmed m d set w → HarmedBySeveral m d set w
-    one-of-several w h = record { last = h .received; chain = then (h .fault) (end (received-is-trace g F (steps-good g set) (h .fault))); differs = h .differs }
+    one-of-several w h =
+        record { last = h .received; chain = then (h .fault) (end (received-is-trace g F (steps-good g set) (h .fault))); differs = h .differs }
 
     pub several-one : holds set repetition ≡ false → (w : List ℕ) → HarmedBySeveral m d set w → (v : List ℕ) × Harmed m d set v × (length v ≤ length w)
     several-one without w h = link without (h .chain) (h .differs)
 
   -- ---- two sets
 
-  over-faults : (F G : List FaultStep) → ((s : FaultStep) → In s F → In s G) → {x y : List ℕ} → Faulted g F x y → Faulted g G x y
-  over-faults F G over f = record {
-    by = f .by;
-    valid = record { before-trace = f .valid .before-trace; known = over (f .by .fault) (f .valid .known); after-trace = f .valid .after-trace };
-    is-sent = f .is-sent;
-    is-received = f .is-received;
-  }
-
-  over-sets : (A B : ℕ) → ((s : FaultStep) → In s (faultsOf m A) → In s (faultsOf m B)) → (w : List ℕ) → Harmed m d A w → Harmed m d B w
-  over-sets A B over w h = record { received = h .received; fault = over-faults (faultsOf m A) (faultsOf m B) over (h .fault); differs = h .differs }
+  -- a trace harmed by a fault step of one set is harmed by every set that has the step
+  step-of-both : (A B : ℕ) (w : List ℕ) (h : Harmed m d A w) → In (h .fault .by .fault) (faultsOf m B) → Harmed m d B w
+  step-of-both A B w h i =
+      let f = h .fault in
+      let valid : Valid g (faultsOf m B) (f .by) = record { before-trace = f .valid .before-trace; known = i; after-trace = f .valid .after-trace } in
+      record { received = h .received; fault = record { by = f .by; valid = valid; is-sent = f .is-sent; is-received = f .is-received }; differs = h .differs }
 
   pub harmed-either : (A B : ℕ) (w : List ℕ) → Harmed m d (together A B) w → Harmed m d A w ⊎ Harmed m d B w
   harmed-either A B w h =
-      ⊎-elim (λ i. inl (again A i)) (λ i. inr (again B i)) (of-either A B (g .symbols) (h .fault .by .fault) (h .fault .valid .known))
-    where
-      again : (C : ℕ) → In (h .fault .by .fault) (faultsOf m C) → Harmed m d C w
-      again C i = record {
-        received = h .received;
-        fault = record {
-          by = h .fault .by;
-          valid = record { before-trace = h .fault .valid .before-trace; known = i; after-trace = h .fault .valid .after-trace };
-          is-sent = h .fault .is-sent;
-          is-received = h .fault .is-received;
-        };
-        differs = h .differs;
-      }
+      ⊎-elim (λ i. inl (step-of-both (together A B) A w h i)) (λ i. inr (step-of-both (together A B) B w h i))
+      (of-either A B (g .symbols) (h .fault .by .fault) (h .fault .valid .known))
 
   pub harmed-first : (A B : ℕ) (w : List ℕ) → Harmed m d A w → Harmed m d (together A B) w
-  harmed-first A B = over-sets A (together A B) (λ s. first-of-two A B (g .symbols) s)
+  harmed-first A B w h = step-of-both A (together A B) w h (first-of-two A B (g .symbols) (h .fault .by .fault) (h .fault .valid .known))
 
   pub harmed-second : (A B : ℕ) (w : List ℕ) → Harmed m d B w → Harmed m d (together A B) w
-  harmed-second A B = over-sets B (together A B) (λ s. second-of-two A B (g .symbols) s)
+  harmed-second A B w h = step-of-both B (together A B) w h (second-of-two A B (g .symbols) (h .fault .by .fault) (h .fault .valid .known))
 
 -- ---- six against three
 
@@ -180,7 +166,9 @@ module _ (limit : ℕ) (m : Monitor) (w : WellFormed limit m) where
   harmed-by-class set x h = record {
     received = h .received;
     fault = h .fault;
-    differs = ap not (ne-eqb (class m p) (class m q) (λ e. eqb-false (m .verdict p) (m .verdict q) (not-true (eqb (m .verdict p) (m .verdict q)) (h .differs)) (same-class p q p-in q-in e)));
+    differs =
+        ap not (ne-eqb (class m p) (class m q)
+        (λ e. eqb-false (m .verdict p) (m .verdict q) (not-true (eqb (m .verdict p) (m .verdict q)) (h .differs)) (same-class p q p-in q-in e)));
   }
     where
       p : ℕ
@@ -199,7 +187,8 @@ module _ (limit : ℕ) (m : Monitor) (w : WellFormed limit m) where
 
   pub distance-exact : (d set : ℕ) → Distance m d set (distance m d set)
   distance-exact d set =
-      extent-exact (m .automaton) (differ m d) (faultsOf m set) (w .closed) (steps-good (m .automaton) set) (m .start) (w .start-in) (steps-rise set (m .automaton .symbols))
+      extent-exact (m .automaton) (differ m d) (faultsOf m set) (w .closed) (steps-good (m .automaton) set) (m .start) (w .start-in)
+      (steps-rise set (m .automaton .symbols))
 
   pub missing-joined : (d set : ℕ) → (distance m d set ≡ missing) ↔ ((x y : List ℕ) → Joined (m .automaton) (faultsOf m set) x y → reads m d x ≡ reads m d y)
   missing-joined d set = (
@@ -210,24 +199,29 @@ module _ (limit : ℕ) (m : Monitor) (w : WellFormed limit m) where
   pub distance-together : (d A B : ℕ) → distance m d (together A B) ≡ smaller (distance m d A) (distance m d B)
   distance-together d A B =
       shortest-one (Harmed m d (together A B)) (distance m d (together A B)) (smaller (distance m d A) (distance m d B)) (distance-exact d (together A B))
-      (shortest-either (Harmed m d A) (Harmed m d B) (Harmed m d (together A B)) (harmed-first m d A B) (harmed-second m d A B) (harmed-either m d A B) (distance m d A) (distance m d B) (distance-exact d A) (distance-exact d B))
+      (shortest-either (Harmed m d A) (Harmed m d B) (Harmed m d (together A B)) (harmed-first m d A B) (harmed-second m d A B) (harmed-either m d A B)
+      (distance m d A) (distance m d B) (distance-exact d A) (distance-exact d B))
 
   pub distance-several : (d set : ℕ) → holds set repetition ≡ false → DistanceOfSeveral m d set (distance m d set)
   distance-several d set without =
       shortest-same (Harmed m d set) (HarmedBySeveral m d set) (one-of-several m d set) (several-one m d set without) (distance m d set) (distance-exact d set)
 
   pub six-at-most-three : (set : ℕ) → AtMost (distance m 6 set) (distance m 3 set)
-  six-at-most-three set = shortest-wider (Harmed m 3 set) (Harmed m 6 set) (harmed-by-class set) (distance m 3 set) (distance m 6 set) (distance-exact 3 set) (distance-exact 6 set)
+  six-at-most-three set =
+      shortest-wider (Harmed m 3 set) (Harmed m 6 set) (harmed-by-class set) (distance m 3 set) (distance m 6 set) (distance-exact 3 set) (distance-exact 6 set)
 
   -- the computed series is the first witness
   pub witness-first : (d set : ℕ) (s : Series) → firstWitness m d set ≡ some s → FirstWitness m d set s
-  witness-first d set s e = record { witness = record { valid = f .harm .valid; differs = differ-not m d (sentTrace s) (receivedTrace s) (f .harm .harms) }; first = before }
+  witness-first d set s e =
+      record { witness = record { valid = f .harm .valid; differs = differ-not m d (sentTrace s) (receivedTrace s) (f .harm .harms) }; first = before }
     where
       f : First (m .automaton) (differ m d) (faultsOf m set) (w .closed) (steps-good (m .automaton) set) (m .start) (w .start-in) s
-      f = first-harms (m .automaton) (differ m d) (faultsOf m set) (w .closed) (steps-good (m .automaton) set) (m .start) (w .start-in) (steps-rise set (m .automaton .symbols)) s e
+      f = first-harms (m .automaton) (differ m d) (faultsOf m set) (w .closed) (steps-good (m .automaton) set) (m .start) (w .start-in)
+          (steps-rise set (m .automaton .symbols)) s e
 
       before : (t : Series) → Witness m d set t → (t ≡ s) ⊎ Precedes s t
-      before t h = f .precedes t (record { valid = h .valid; harms = ⊎-elim (λ alike. absurd (h .differs alike)) (λ r. r) (alike-or-differ m d (sentTrace t) (receivedTrace t)) })
+      before t h = f .precedes t
+          (record { valid = h .valid; harms = ⊎-elim (λ alike. absurd (h .differs alike)) (λ r. r) (alike-or-differ m d (sentTrace t) (receivedTrace t)) })
 
   -- no distance is 0: every fault step covers a symbol
   pub distance-positive : (d set l : ℕ) → distance m d set ≡ number l → 1 ≤ l

@@ -8,7 +8,8 @@ use lib.Dec.{eqb}
 use borrow.Author.Tests.{eqb-true, eq-eqb}
 use Rattle.theory.specs.Below.{any}
 use Rattle.theory.specs.Automaton.{run, Reaches, leads}
-use Rattle.theory.specs.Monitor.{Monitor, WellFormed, Finds, Class, good, bad, positive, negative, neutral, ugly, weak, Monitorability, none, as-start, marked, classFrom, class, reached, uglyReached, monitorability}
+use Rattle.theory.specs.Monitor.{Monitor, WellFormed, Finds, Class, good, bad, positive, negative, neutral, ugly, weak, Monitorability, none, as-start}
+use Rattle.theory.specs.Monitor.{marked, classFrom, class, reached, uglyReached, monitorability}
 use Rattle.theory.proofs.Below.{clash, not-clash, and-left, and-right, and-both, any-at, any-find}
 use Rattle.theory.proofs.Reach.{run-in, reaches-hits, leads-sound, leads-complete, reached-sound, reached-complete}
 
@@ -42,7 +43,8 @@ module _ {limit : ℕ} {m : Monitor} (w : WellFormed limit m) where
     class-is =
         go (m .verdict q) refl (w .verdict-in q l) (leads (m .automaton) (marked m 1) q) refl (leads (m .automaton) (marked m 2) q) refl
       where
-        go : (v : ℕ) → m .verdict q ≡ v → v ≤ 2 → (t : Bool) → leads (m .automaton) (marked m 1) q ≡ t → (f : Bool) → leads (m .automaton) (marked m 2) q ≡ f → Class m q (classFrom v t f)
+        go : (v : ℕ) → m .verdict q ≡ v → v ≤ 2 → (t : Bool) → leads (m .automaton) (marked m 1) q ≡ t → (f : Bool) → leads (m .automaton) (marked m 2) q ≡ f
+            → Class m q (classFrom v t f)
         go zero e r true a false b = positive e (found 1 q a) (missed 2 q l b)
         go zero e r false a true b = negative e (missed 1 q l a) (found 2 q b)
         go zero e r true a true b = neutral e (found 1 q a) (found 2 q b)
@@ -78,7 +80,8 @@ module _ {limit : ℕ} {m : Monitor} (w : WellFormed limit m) where
   ugly-sought : (q : ℕ) → Reaches (m .automaton) (m .start) q → Class m q 5 → any (m .automaton .states) (uglyReached m) ≡ true
   ugly-sought q r u =
       any-at (m .automaton .states) (uglyReached m) q (reached-in q r)
-      (and-both (reached m q) (eqb (class m q) 5) (reached-complete (w .closed) (w .start-in) r) (eq-eqb (class m q) 5 (sym (class-exact q (reached-in q r) 5 .0 u))))
+      (and-both (reached m q) (eqb (class m q) 5) (reached-complete (w .closed) (w .start-in) r)
+      (eq-eqb (class m q) 5 (sym (class-exact q (reached-in q r) 5 .0 u))))
 
   monitorability-is : Monitorability m (monitorability m)
   unfolding monitorability

@@ -26,7 +26,8 @@ module _ (P Q : List ℕ → Type 0) where
   shortest-wider over (number l) (number m) a b = (let x = b .least (a .word) (over (a .word) (a .has)) in let y = a .long in omega (arith, x, y))
 
   -- and what has Q has one with P that is not longer
-  pub shortest-same : ((w : List ℕ) → P w → Q w) → ((w : List ℕ) → Q w → (v : List ℕ) × P v × (length v ≤ length w)) → (e : Extent) → ShortestLength P e → ShortestLength Q e
+  pub shortest-same : ((w : List ℕ) → P w → Q w) → ((w : List ℕ) → Q w → (v : List ℕ) × P v × (length v ≤ length w)) → (e : Extent) → ShortestLength P e
+      → ShortestLength Q e
   shortest-same over back missing a = λ w h. (let v = back w h in a (v .0) (v .1))
   shortest-same over back (number l) a = record {
     word = a .word;

@@ -42,12 +42,16 @@ module _ (set k : ℕ) where
       go c l true e h =
           let a = in-each s k (pairsOf k c) h in
           let b = in-each s (seconds c k) (λ b. stepOf c (a .index) b ∷ []) (a .here) in
-          record { place = c; first = a .index; second = b .index; place-in = l; held = e; first-in = a .below; second-in = b .below; is = ⊎-elim (λ q. q) (λ f. absurd f) (b .here) }
+          let is = ⊎-elim (λ q. q) (λ f. absurd f) (b .here) in
+          record { place = c; first = a .index; second = b .index; place-in = l; held = e; first-in = a .below; second-in = b .below; is = is }
       go c l false e h = absurd h
 
-  pub held-steps : (s : FaultStep) → Held set k s → In s (steps set k)
+  -- a step of one set is a step of every set that has its kind
+  pub held-steps : {F : ℕ} (s : FaultStep) (h : Held F k s) → holds set (h .place) ≡ true → In s (steps set k)
   unfolding steps
-  held-steps s h = each-in s kinds ofKind (h .place) (h .place-in) (rw (h .held) (each-in s k (pairsOf k (h .place)) (h .first) (h .first-in) (each-in s (seconds (h .place) k) (λ b. stepOf (h .place) (h .first) b ∷ []) (h .second) (h .second-in) (inl (h .is)))))
+  held-steps s h e =
+      each-in s kinds ofKind (h .place) (h .place-in) (rw e (each-in s k (pairsOf k (h .place)) (h .first) (h .first-in)
+      (each-in s (seconds (h .place) k) (λ b. stepOf (h .place) (h .first) b ∷ []) (h .second) (h .second-in) (inl (h .is)))))
 
 -- ---- the written order
 
@@ -93,7 +97,8 @@ steps-rise set k = rising-each StepFirst kinds (ofKind set k) (λ c _. one c (ho
         (λ a e l _ x y i j.
         let b = in-each x (seconds c k) (λ b. stepOf c a b ∷ []) i in
         let f = in-each y (seconds c k) (λ b. stepOf c e b ∷ []) j in
-        over (stepOf c a (b .index)) (stepOf c e (f .index)) x y (only x (stepOf c a (b .index)) (b .here)) (only y (stepOf c e (f .index)) (f .here)) (firsts-rise c a e (b .index) (f .index) l))
+        over (stepOf c a (b .index)) (stepOf c e (f .index)) x y (only x (stepOf c a (b .index)) (b .here)) (only y (stepOf c e (f .index)) (f .here))
+        (firsts-rise c a e (b .index) (f .index) l))
     one c false = tt
 
     in-kind : (c : ℕ) (x : FaultStep) → c < kinds → In x (stepsOfKind k c) → x .kind ≡ 2 ^ c
@@ -102,7 +107,8 @@ steps-rise set k = rising-each StepFirst kinds (ofKind set k) (λ c _. one c (ho
         let b = in-each x (seconds c k) (λ b. stepOf c (a .index) b ∷ []) (a .here) in
         ap (λ (s : FaultStep). s .kind) (only x (stepOf c (a .index) (b .index)) (b .here)) ∙ kind-is c (a .index) (b .index) l
 
-    two : (c e : ℕ) → c < e → e < kinds → (p q : Bool) (x y : FaultStep) → In x (cond p (stepsOfKind k c) []) → In y (cond q (stepsOfKind k e) []) → StepFirst x y
+    two : (c e : ℕ) → c < e → e < kinds → (p q : Bool) (x y : FaultStep) → In x (cond p (stepsOfKind k c) []) → In y (cond q (stepsOfKind k e) [])
+        → StepFirst x y
     two c e l m true true x y i j = (let u = in-kind c x (omega arith) i in let v = in-kind e y m j in let r = pow-lt l in inl (omega (arith, u, v, r)))
     two c e l m true false x y i j = absurd j
     two c e l m false q x y i j = absurd i
@@ -139,19 +145,14 @@ steps-shrink set k without s i =
     go (suc (suc zero)) e a b = absurd (clash e without)
     go (suc (suc (suc c))) e a b = le-refl 2
 
--- a step of one set is a step of every set that has its kind
-other-set : (F G k : ℕ) (s : FaultStep) (h : Held F k s) → holds G (h .place) ≡ true → In s (steps G k)
-other-set F G k s h e =
-    held-steps G k s (record { place = h .place; first = h .first; second = h .second; place-in = h .place-in; held = e; first-in = h .first-in; second-in = h .second-in; is = h .is })
-
 wider : (F G k : ℕ) (s : FaultStep) → ((c : ℕ) → holds F c ≡ true → holds G c ≡ true) → In s (steps F k) → In s (steps G k)
-wider F G k s over i = (let h = steps-held F k s i in other-set F G k s h (over (h .place) (h .held)))
+wider F G k s over i = (let h = steps-held F k s i in held-steps G k s h (over (h .place) (h .held)))
 
 -- two sets together have the steps of either, and no other
 pub of-either : (F G k : ℕ) (s : FaultStep) → In s (steps (together F G) k) → In s (steps F k) ⊎ In s (steps G k)
 of-either F G k s i =
     let h = steps-held (together F G) k s i in
-    ⊎-elim (λ e. inl (other-set (together F G) F k s h e)) (λ e. inr (other-set (together F G) G k s h e))
+    ⊎-elim (λ e. inl (held-steps F k s h e)) (λ e. inr (held-steps G k s h e))
     (or-cases (holds F (h .place)) (holds G (h .place)) (sym (bit-or F G (h .place)) ∙ h .held))
 
 pub first-of-two : (F G k : ℕ) (s : FaultStep) → In s (steps F k) → In s (steps (together F G) k)

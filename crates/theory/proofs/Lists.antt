@@ -41,13 +41,15 @@ module _ {A : Type 0} where
   unfolding each
   each-in x zero f i l h = absurd (not-suc-le-zero l)
   each-in x (suc n) f i l h =
-      ⊎-elim (λ e. in-right x (each n f) (f n) (subst (λ (j : ℕ). In x (f j)) e h)) (λ s. in-left x (each n f) (f n) (each-in x n f i s h)) (eq-or-lt-of-le (le-of-suc-le-suc l))
+      ⊎-elim (λ e. in-right x (each n f) (f n) (subst (λ (j : ℕ). In x (f j)) e h)) (λ s. in-left x (each n f) (f n) (each-in x n f i s h))
+      (eq-or-lt-of-le (le-of-suc-le-suc l))
 
   pub in-each : (x : A) (n : ℕ) (f : ℕ → List A) → In x (each n f) → InEach n f x
   unfolding each
   in-each x zero f h = absurd h
   in-each x (suc n) f h =
-      ⊎-elim (λ i. (let r = in-each x n f i in record { index = r .index; below = omega (arith, r .below); here = r .here })) (λ i. record { index = n; below = le-refl (suc n); here = i }) (in-either x (each n f) (f n) h)
+      ⊎-elim (λ i. (let r = in-each x n f i in record { index = r .index; below = omega (arith, r .below); here = r .here }))
+      (λ i. record { index = n; below = le-refl (suc n); here = i }) (in-either x (each n f) (f n) h)
 
   -- ---- the first that passes
 
@@ -83,18 +85,15 @@ module _ {A : Type 0} where
     pub find-later : (xs ys : List A) → find f xs ≡ none → find f (xs ++ ys) ≡ find f ys
     unfolding find
     find-later [] ys e = refl
-    find-later (x ∷ xs) ys e = go (f x) e (find-later xs ys)
-      where
-        go : (b : Bool) → cond b (some x) (find f xs) ≡ none → (find f xs ≡ none → find f (xs ++ ys) ≡ find f ys) → cond b (some x) (find f (xs ++ ys)) ≡ find f ys
-        go true h rest = absurd (no-some (sym h))
-        go false h rest = rest h
+    find-later (x ∷ xs) ys e = (let p = none-passes (x ∷ xs) e x (inl refl) in rw p (find-later xs ys (rw p at e)))
 
     pub find-here : (xs ys : List A) {x : A} → find f xs ≡ some x → find f (xs ++ ys) ≡ some x
     unfolding find
     find-here [] ys e = absurd (no-some e)
     find-here (y ∷ xs) ys {x} e = go (f y) e (find-here xs ys)
       where
-        go : (b : Bool) → cond b (some y) (find f xs) ≡ some x → (find f xs ≡ some x → find f (xs ++ ys) ≡ some x) → cond b (some y) (find f (xs ++ ys)) ≡ some x
+        go : (b : Bool) → cond b (some y) (find f xs) ≡ some x → (find f xs ≡ some x → find f (xs ++ ys) ≡ some x)
+            → cond b (some y) (find f (xs ++ ys)) ≡ some x
         go true h rest = h
         go false h rest = rest h
 
@@ -104,7 +103,8 @@ module _ {A : Type 0} where
     find-each-none (suc n) h none-at = find-later (each n h) (h n) (find-each-none n h (λ j s. none-at j (omega (arith, s)))) ∙ none-at n (le-refl (suc n))
 
     -- the first list that has one decides
-    pub find-each : (n : ℕ) (h : ℕ → List A) (i : ℕ) {x : A} → i < n → ((j : ℕ) → j < i → find f (h j) ≡ none) → find f (h i) ≡ some x → find f (each n h) ≡ some x
+    pub find-each : (n : ℕ) (h : ℕ → List A) (i : ℕ) {x : A} → i < n → ((j : ℕ) → j < i → find f (h j) ≡ none) → find f (h i) ≡ some x
+        → find f (each n h) ≡ some x
     unfolding each
     find-each zero h i l before e = absurd (not-suc-le-zero l)
     find-each (suc n) h i {x} l before e =
@@ -141,7 +141,8 @@ module _ {A : Type 0} where
     rising-append (x ∷ xs) ys r s h =
         (λ y i. ⊎-elim (λ j. r .0 y j) (λ j. h x y (inl refl) j) (in-either y xs ys i), rising-append xs ys (r .1) s (λ u v i j. h u v (inr i) j))
 
-    pub rising-each : (n : ℕ) (f : ℕ → List A) → ((i : ℕ) → i < n → Rising R (f i)) → ((i j : ℕ) → i < j → j < n → (x y : A) → In x (f i) → In y (f j) → R x y) → Rising R (each n f)
+    pub rising-each : (n : ℕ) (f : ℕ → List A) → ((i : ℕ) → i < n → Rising R (f i)) → ((i j : ℕ) → i < j → j < n → (x y : A) → In x (f i) → In y (f j) → R x y)
+        → Rising R (each n f)
     unfolding each
     rising-each zero f one two = tt
     rising-each (suc n) f one two =
@@ -161,7 +162,8 @@ module _ {A B : Type 0} where
   pub in-map : (h : A → B) (y : B) (xs : List A) → In y (map h xs) → InImage h xs y
   in-map h y [] i = absurd i
   in-map h y (x ∷ xs) i =
-      ⊎-elim (λ e. record { origin = x; inside = inl refl; is = e }) (λ j. (let r = in-map h y xs j in record { origin = r .origin; inside = inr (r .inside); is = r .is })) i
+      ⊎-elim (λ e. record { origin = x; inside = inl refl; is = e })
+      (λ j. (let r = in-map h y xs j in record { origin = r .origin; inside = inr (r .inside); is = r .is })) i
 
   pub record InSome (h : A → List B) (xs : List A) (y : B) : Type 0 where
     pub origin : A
@@ -172,13 +174,15 @@ module _ {A B : Type 0} where
   unfolding flatMap
   flatMap-in h x y [] i j = absurd i
   flatMap-in h x y (z ∷ xs) i j =
-      ⊎-elim (λ (e : x ≡ z). in-left y (h z) (flatMap h xs) (subst (λ (u : A). In y (h u)) e j)) (λ s. in-right y (h z) (flatMap h xs) (flatMap-in h x y xs s j)) i
+      ⊎-elim (λ (e : x ≡ z). in-left y (h z) (flatMap h xs) (subst (λ (u : A). In y (h u)) e j))
+      (λ s. in-right y (h z) (flatMap h xs) (flatMap-in h x y xs s j)) i
 
   pub in-flatMap : (h : A → List B) (y : B) (xs : List A) → In y (flatMap h xs) → InSome h xs y
   unfolding flatMap
   in-flatMap h y [] i = absurd i
   in-flatMap h y (x ∷ xs) i =
-      ⊎-elim (λ j. record { origin = x; inside = inl refl; here = j }) (λ j. (let r = in-flatMap h y xs j in record { origin = r .origin; inside = inr (r .inside); here = r .here }))
+      ⊎-elim (λ j. record { origin = x; inside = inl refl; here = j })
+      (λ j. (let r = in-flatMap h y xs j in record { origin = r .origin; inside = inr (r .inside); here = r .here }))
       (in-either y (h x) (flatMap h xs) i)
 
   pub find-map : (f : B → Bool) (h : A → B) (xs : List A) {x : A} → find (λ y. f (h y)) xs ≡ some x → find f (map h xs) ≡ some (h x)
@@ -186,7 +190,8 @@ module _ {A B : Type 0} where
   find-map f h [] e = absurd (no-some e)
   find-map f h (y ∷ xs) {x} e = go (f (h y)) e (find-map f h xs)
     where
-      go : (b : Bool) → cond b (some y) (find (λ z. f (h z)) xs) ≡ some x → (find (λ z. f (h z)) xs ≡ some x → find f (map h xs) ≡ some (h x)) → cond b (some (h y)) (find f (map h xs)) ≡ some (h x)
+      go : (b : Bool) → cond b (some y) (find (λ z. f (h z)) xs) ≡ some x → (find (λ z. f (h z)) xs ≡ some x → find f (map h xs) ≡ some (h x))
+          → cond b (some (h y)) (find f (map h xs)) ≡ some (h x)
       go true q rest = ap (λ (z : A). some (h z)) (some-same q)
       go false q rest = rest q
 
@@ -200,17 +205,21 @@ module _ {A B : Type 0} where
   find-flatMap f t h [] at e here = absurd (no-some e)
   find-flatMap f t h (z ∷ xs) {x} {y} at e here = go (t z) refl e (λ q. find-flatMap f t h xs (λ u i p. at u (inr i) p) q here)
     where
-      go : (b : Bool) → t z ≡ b → cond b (some z) (find t xs) ≡ some x → (find t xs ≡ some x → find f (flatMap h xs) ≡ some y) → find f (h z ++ flatMap h xs) ≡ some y
+      go : (b : Bool) → t z ≡ b → cond b (some z) (find t xs) ≡ some x → (find t xs ≡ some x → find f (flatMap h xs) ≡ some y)
+          → find f (h z ++ flatMap h xs) ≡ some y
       go true p q rest = find-here f (h z) (flatMap h xs) (subst (λ (u : A). find f (h u) ≡ some y) (sym (some-same q)) here)
       go false p q rest = find-later f (h z) (flatMap h xs) (at z (inl refl) p) ∙ rest q
 
   pub find-flatMap-none : (f : B → Bool) (h : A → List B) (xs : List A) → ((z : A) → In z xs → find f (h z) ≡ none) → find f (flatMap h xs) ≡ none
-  find-flatMap-none f h xs at = find-none f (flatMap h xs) (λ y i. (let r = in-flatMap h y xs i in none-passes f (h (r .origin)) (at (r .origin) (r .inside)) y (r .here)))
+  find-flatMap-none f h xs at =
+      find-none f (flatMap h xs) (λ y i. (let r = in-flatMap h y xs i in none-passes f (h (r .origin)) (at (r .origin) (r .inside)) y (r .here)))
 
   pub rising-map : (R : B → B → Type 0) (S : A → A → Type 0) (h : A → B) (xs : List A) → ((x y : A) → S x y → R (h x) (h y)) → Rising S xs → Rising R (map h xs)
   rising-map R S h [] over r = tt
-  rising-map R S h (x ∷ xs) over r =
-      (λ y i. (let o = in-map h y xs i in subst (λ (u : B). R (h x) u) (sym (o .is)) (over x (o .origin) (r .0 (o .origin) (o .inside)))), rising-map R S h xs over (r .1))
+  rising-map R S h (x ∷ xs) over r = (
+    λ y i. (let o = in-map h y xs i in subst (λ (u : B). R (h x) u) (sym (o .is)) (over x (o .origin) (r .0 (o .origin) (o .inside)))),
+    rising-map R S h xs over (r .1),
+  )
 
   pub rising-flatMap : (R : B → B → Type 0) (S : A → A → Type 0) (h : A → List B) (xs : List A) → Rising S xs
       → ((x : A) → In x xs → Rising R (h x)) → ((x y : A) (u v : B) → S x y → In u (h x) → In v (h y) → R u v) → Rising R (flatMap h xs)

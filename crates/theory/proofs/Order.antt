@@ -24,7 +24,8 @@ by-step-self [] s v h = ⊎-elim (step-self s) (λ r. lower-self v (r .1)) h
 by-step-self (a ∷ x) s v h = ⊎-elim (λ (l : a < a). omega arith) (λ r. by-step-self x s v (r .1)) h
 
 pub precedes-not-itself : (s : Series) → Precedes s s → ⊥
-precedes-not-itself s h = ⊎-elim (λ (l : length (sentTrace s) < length (sentTrace s)). omega arith) (λ r. by-step-self (s .before) (s .fault) (s .after) (r .1)) h
+precedes-not-itself s h =
+    ⊎-elim (λ (l : length (sentTrace s) < length (sentTrace s)). omega arith) (λ r. by-step-self (s .before) (s .fault) (s .after) (r .1)) h
 
 -- ---- one after the other
 

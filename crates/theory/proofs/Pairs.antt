@@ -61,7 +61,8 @@ module _ (g : Automaton) (ends : ℕ → ℕ → Bool) where
   pub told-up : (r s p q : ℕ) → r ≤ s → told g ends r p q ≡ true → told g ends s p q ≡ true
   told-up r zero p q l e = (let z : r ≡ 0 = omega arith in subst (λ (x : ℕ). told g ends x p q ≡ true) z e)
   told-up r (suc s) p q l e =
-      ⊎-elim (λ (z : r ≡ suc s). subst (λ (x : ℕ). told g ends x p q ≡ true) z e) (λ h. told-more s p q (told-up r s p q (le-of-suc-le-suc h) e)) (eq-or-lt-of-le l)
+      ⊎-elim (λ (z : r ≡ suc s). subst (λ (x : ℕ). told g ends x p q ≡ true) z e) (λ h. told-more s p q (told-up r s p q (le-of-suc-le-suc h) e))
+      (eq-or-lt-of-le l)
 
   pub told-complete : (r p q : ℕ) (w : List ℕ) → length w ≤ r → Tells g ends p q w → told g ends r p q ≡ true
   unfolding told
@@ -87,7 +88,9 @@ module _ (g : Automaton) (ends : ℕ → ℕ → Bool) where
 
     -- once still, no number of symbols tells more
     pub still-ever : (r s p q : ℕ) → Still r → p < g .states → q < g .states → told g ends s p q ≡ true → told g ends r p q ≡ true
-    still-ever r s p q h lp lq e = ⊎-elim (λ (l : s < r). told-up s r p q (omega arith) e) (λ l. subst (λ (x : ℕ). told g ends x p q ≡ true → told g ends r p q ≡ true) (add-sub-of-le l) (λ t. sym (all (s - r) .1 p q lp lq) ∙ t) e) (lt-or-le s r)
+    still-ever r s p q h lp lq e = ⊎-elim (λ (l : s < r). told-up s r p q (omega arith) e)
+        (λ l. subst (λ (x : ℕ). told g ends x p q ≡ true → told g ends r p q ≡ true) (add-sub-of-le l)
+        (λ t. sym (all (s - r) .1 p q lp lq) ∙ t) e) (lt-or-le s r)
       where
         all : (j : ℕ) → Still (r + j) × ((p q : ℕ) → p < g .states → q < g .states → told g ends (r + j) p q ≡ told g ends r p q)
         all zero = rw (add-zero r) (h, λ p q _ _. refl)

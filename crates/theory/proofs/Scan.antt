@@ -1,13 +1,13 @@
--- Loops that look for the first number that passes a test.
+-- Loops that look for the first number that passes a test, or for whether there is one.
 use mathlib.Core.Path.{_≡_, sym, ap, _∙_}
 use mathlib.Core.Bool.{Bool, true, false}
 use mathlib.Core.Logic.{⊎-elim}
-use Prim.Native.Nat.{ℕ, _+_, _*_, _≤_, _<_}
+use Prim.Native.Nat.{ℕ, _+_, _*_, _≤_, _<_, zero-le}
 use native.Mathlib.Nat.{le-refl, zero-mul, suc-mul, mul-le-mul-right}
 use native.Mathlib.Numerals.{add-one}
 use native.Mathlib.Omega.{arith}
-use Rattle.theory.specs.Below.{first}
-use Rattle.theory.proofs.Below.{lt-or-le, first-is, first-ge, first-below, first-here}
+use Rattle.theory.specs.Below.{any, first}
+use Rattle.theory.proofs.Below.{clash, not-clash, lt-or-le, any-at, any-find, first-is, first-ge, first-below, first-here}
 
 -- of the c numbers from a on, those before i fail the test
 pub record Passed (f : ℕ → Bool) (a c i : ℕ) : Type 0 where
@@ -41,6 +41,13 @@ scan-finds {f} {a} {c} {i} p e = sym (first-is f c a i (p .from) (p .upto) (p .f
 
 pub scan-ends : {f : ℕ → Bool} {a c i : ℕ} → Passed f a c i → a + c ≤ i → i ≡ first f a c
 scan-ends {f} {a} {c} {i} p l = sym (first-is f c a i (p .from) (p .upto) (p .fails) (λ h. absurd (omega arith)))
+
+-- whether some number below c passes
+pub scan-some : {f : ℕ → Bool} {c i : ℕ} → Passed f 0 c i → i < c → f i ≡ true → true ≡ any c f
+scan-some {f} {c} {i} p l e = sym (any-at c f i l e)
+
+pub scan-none : {f : ℕ → Bool} {c i : ℕ} → Passed f 0 c i → c ≤ i → false ≡ any c f
+scan-none {f} {c} p l = sym (not-clash (λ t. (let b = any-find c f t in clash (b .2) (p .fails (b .0) zero-le (omega (arith, b .1))))))
 
 -- ---- row by row: row q has the k numbers from q * k on
 

@@ -2,7 +2,7 @@
 use mathlib.Core.Path.{_≡_, refl, sym, ap, _∙_, subst}
 use mathlib.Core.Bool.{Bool, true, false, cond}
 use mathlib.Core.List.{List, [], _∷_, _++_, map, flatMap}
-use mathlib.Core.Logic.{_⊎_, inl, inr, ⊎-elim}
+use mathlib.Core.Logic.{inl, inr, ⊎-elim}
 use Prim.Native.Nat.{ℕ, zero, suc, _+_, _-_, _<_}
 use native.Mathlib.Nat.{add-sub-of-le}
 use native.Mathlib.Omega.{arith}
@@ -13,7 +13,8 @@ use Rattle.theory.specs.Lists.{In, each, Rising}
 use Rattle.theory.specs.Automaton.{Automaton, Trace}
 use Rattle.theory.specs.Faults.{FaultStep}
 use Rattle.theory.specs.Series.{Series, Valid, sentTrace, Lower, StepFirst, StepByStep, Precedes, words, struck, plain, series}
-use Rattle.theory.proofs.Lists.{in-left, in-right, in-either, each-in, in-each, map-in, in-map, flatMap-in, in-flatMap, rising-append, rising-each, rising-map, rising-flatMap}
+use Rattle.theory.proofs.Lists.{in-left, in-right, in-either, each-in, in-each, map-in, in-map, flatMap-in, in-flatMap, rising-append, rising-each}
+use Rattle.theory.proofs.Lists.{rising-map, rising-flatMap}
 
 -- a series that begins with the fault step s
 abbrev pub begin : FaultStep → List ℕ → Series
@@ -57,7 +58,12 @@ module _ (g : Automaton) where
       go true e j =
           let m = in-map (begin f) s (words k (l - length (f .sent))) j in
           let w = words-in (l - length (f .sent)) (m .origin) (m .inside) in
-          record { rest = m .origin; trace = w .0; long = ap (λ (x : ℕ). length (f .sent) + x) (w .1) ∙ add-sub-of-le (leb-true (length (f .sent)) l e); is = m .is }
+          record {
+            rest = m .origin;
+            trace = w .0;
+            long = ap (λ (x : ℕ). length (f .sent) + x) (w .1) ∙ add-sub-of-le (leb-true (length (f .sent)) l e);
+            is = m .is;
+          }
       go false e j = absurd j
 
   module _ (faults : List FaultStep) where
@@ -70,7 +76,8 @@ module _ (g : Automaton) where
     unfolding Trace
     struck-in l f s known i =
         let r = struck-is l f s i in
-        subst (Long l) (sym (r .is)) (record { valid = record { before-trace = tt; known = known; after-trace = r .trace }; long = length-append (f .sent) (r .rest) ∙ r .long })
+        subst (Long l) (sym (r .is))
+        (record { valid = record { before-trace = tt; known = known; after-trace = r .trace }; long = length-append (f .sent) (r .rest) ∙ r .long })
 
     in-struck : (l : ℕ) (f : FaultStep) (w : List ℕ) → Trace g w → length (f .sent) + length w ≡ l → In (begin f w) (struck k l f)
     in-struck l f w t e =
@@ -101,12 +108,15 @@ module _ (g : Automaton) where
         (in-either s (flatMap (struck k (suc l)) faults) (each k (λ b. map (plain b) (series faults k l))) i)
 
     -- and every such series is in the list
-    pub in-series : (l : ℕ) (x : List ℕ) (f : FaultStep) (y : List ℕ) → Long l (record { before = x; fault = f; after = y }) → In (record { before = x; fault = f; after = y }) (series faults k l)
+    pub in-series : (l : ℕ) (x : List ℕ) (f : FaultStep) (y : List ℕ) → Long l (record { before = x; fault = f; after = y })
+        → In (record { before = x; fault = f; after = y }) (series faults k l)
     unfolding series Trace
-    in-series zero [] f y h = flatMap-in (struck k zero) f (begin f y) faults (h .valid .known) (in-struck zero f y (h .valid .after-trace) (sym (length-append (f .sent) y) ∙ h .long))
+    in-series zero [] f y h = flatMap-in (struck k zero) f (begin f y) faults (h .valid .known)
+        (in-struck zero f y (h .valid .after-trace) (sym (length-append (f .sent) y) ∙ h .long))
     in-series (suc l) [] f y h =
         in-left (begin f y) (flatMap (struck k (suc l)) faults) (each k (λ b. map (plain b) (series faults k l)))
-        (flatMap-in (struck k (suc l)) f (begin f y) faults (h .valid .known) (in-struck (suc l) f y (h .valid .after-trace) (sym (length-append (f .sent) y) ∙ h .long)))
+        (flatMap-in (struck k (suc l)) f (begin f y) faults (h .valid .known)
+        (in-struck (suc l) f y (h .valid .after-trace) (sym (length-append (f .sent) y) ∙ h .long)))
     in-series zero (a ∷ x) f y h = absurd (let z : suc (length (x ++ (f .sent ++ y))) ≡ 0 = h .long in omega arith)
     in-series (suc l) (a ∷ x) f y h =
         in-right (record { before = a ∷ x; fault = f; after = y }) (flatMap (struck k (suc l)) faults) (each k (λ b. map (plain b) (series faults k l)))

@@ -26,8 +26,11 @@ module _ (n : ℕ) (grown : ℕ → ℕ → Bool) where
         go true e =
             let f = any-find n (added r) e in
             let p = f .0 in
-            inr (count-more n (grown r) (grown (suc r)) (more r) p (f .1) (not-true (grown r p) (and-right (grown (suc r) p) (not (grown r p)) (f .2))) (and-left (grown (suc r) p) (not (grown r p)) (f .2)))
-        go false e = inl (λ p l. both-ways (λ t. is-true (λ h. clash (any-at n (added r) p l (and-both (grown (suc r) p) (not (grown r p)) t (ap not h))) e)) (more r p l))
+            inr (count-more n (grown r) (grown (suc r)) (more r) p (f .1) (not-true (grown r p) (and-right (grown (suc r) p) (not (grown r p)) (f .2)))
+            (and-left (grown (suc r) p) (not (grown r p)) (f .2)))
+        go false e =
+            inl (λ p l. both-ways (λ t. is-true
+            (λ h. clash (any-at n (added r) p l (and-both (grown (suc r) p) (not (grown r p)) t (ap not h))) e)) (more r p l))
 
     still-or-many : (r : ℕ) → Still r ⊎ (r < count n (grown (suc r)))
     still-or-many zero = ⊎-elim (λ s. inl s) (λ l. inr (omega (arith, l))) (still-or-more zero)

@@ -31,8 +31,11 @@ use Rattle.theory.proofs.Series.{Long, series-in, in-series, series-ris
 pub run-parts : (g : Automaton) (q : ℕ) (x u y : List ℕ) → run g q (x ++ (u ++ y)) ≡ run g (run g (run g q x) u) y
 run-parts g q x u y = run-append g q x (u ++ y) ∙ run-append g (run g q x) u y
 
+pub parts-length : (u v w : List ℕ) → length (u ++ (v ++ w)) ≡ length u + (length v + length w)
+parts-length u v w = length-append u (v ++ w) ∙ ap (λ (l : ℕ). length u + l) (length-append v w)
+
 pub sent-length : (s : Series) → length (sentTrace s) ≡ length (s .before) + (length (s .fault .sent) + length (s .after))
-sent-length s = length-append (s .before) (s .fault .sent ++ s .after) ∙ ap (λ (l : ℕ). length (s .before) + l) (length-append (s .fault .sent) (s .after))
+sent-length s = parts-length (s .before) (s .fault .sent) (s .after)
 
 -- a fault step strikes: it takes some state reached from q to two states that some trace tells apart
 abbrev pub strikesAt : Automaton → (ℕ → ℕ → Bool) → ℕ → FaultStep → ℕ → Bool
@@ -161,7 +164,8 @@ module _ (g : Automaton) (ends : ℕ → ℕ → Bool) (faults : List FaultStep)
           before t h =
               ⊎-elim
               (λ (far : horizon (g .states) < length (sentTrace t)). inr (inl (omega (arith, short))))
-              (λ close. find-first (harmful g ends q) Precedes upToHorizon (series-rise g faults rise (suc (horizon (g .states)))) e t (listed t h close) (h .harms))
+              (λ close. find-first (harmful g ends q) Precedes upToHorizon (series-rise g faults rise (suc (horizon (g .states)))) e t
+              (listed t h close) (h .harms))
               (lt-or-le (horizon (g .states)) (length (sentTrace t)))
 
       pub first-least : {s : Series} → First s → (t : Series) → Harm q t → length (sentTrace s) ≤ length (sentTrace t)
@@ -193,17 +197,22 @@ module _ (g : Automaton) (ends : ℕ → ℕ → Bool) (faults : List FaultStep)
     unfolding firstHarmful
     found-first l s within least e =
         find-each (harmful g ends q) (suc (horizon (g .states))) (series faults (g .symbols)) l (suc-le-suc within)
-        (λ j lt. find-none (harmful g ends q) (series faults (g .symbols) j) (λ t i. not-clash (λ h. (let r = series-in g faults j t i in let x = least t (record { valid = r .valid; harms = h }) in let y = r .long in omega (arith, lt, x, y))))) e
+        (λ j lt. find-none (harmful g ends q) (series faults (g .symbols) j)
+        (λ t i. not-clash (λ h. (let r = series-in g faults j t i in let x = least t (record { valid = r .valid; harms = h }) in let y = r .long in
+        omega (arith, lt, x, y))))) e
 
     pub found-none : ((t : Series) → Harm q t → ⊥) → firstHarmful g ends faults q ≡ none
     unfolding firstHarmful
     found-none no-harm =
-        find-none (harmful g ends q) upToHorizon (λ t i. not-clash (λ h. (let r = in-each t (suc (horizon (g .states))) (series faults (g .symbols)) i in no-harm t (record { valid = series-in g faults (r .index) t (r .here) .valid; harms = h }))))
+        find-none (harmful g ends q) upToHorizon
+        (λ t i. not-clash (λ h. (let r = in-each t (suc (horizon (g .states))) (series faults (g .symbols)) i in
+        no-harm t (record { valid = series-in g faults (r .index) t (r .here) .valid; harms = h }))))
 
     -- ---- how little has to be computed
 
     -- what is first among the series of at most l symbols is the first
-    pub found-early : (l : ℕ) (s : Series) → l ≤ horizon (g .states) → find (harmful g ends q) (each (suc l) (series faults (g .symbols))) ≡ some s → firstHarmful g ends faults q ≡ some s
+    pub found-early : (l : ℕ) (s : Series) → l ≤ horizon (g .states) → find (harmful g ends q) (each (suc l) (series faults (g .symbols))) ≡ some s
+        → firstHarmful g ends faults q ≡ some s
     unfolding firstHarmful
     found-early l s within e = find-each-more (harmful g ends q) (suc l) (suc (horizon (g .states))) (series faults (g .symbols)) (suc-le-suc within) e
 
@@ -216,16 +225,20 @@ module _ (g : Automaton) (ends : ℕ → ℕ → Bool) (faults : List FaultStep)
         let w = h .valid .before-trace in
         let r : reachedFrom g q p ≡ true = reached-complete c q-in (record { word = t .before; trace = w; arrives = refl }) in
         clash
-        (any-at (g .states) (strikesAt g ends q (t .fault)) p (run-in c q (t .before) q-in w) (and-both (reachedFrom g q p) (told g ends (g .states * g .states) (sentState q t) (receivedState q t)) r (harm-told t h)))
+        (any-at (g .states) (strikesAt g ends q (t .fault)) p (run-in c q (t .before) q-in w)
+        (and-both (reachedFrom g q p) (told g ends (g .states * g .states) (sentState q t) (receivedState q t)) r (harm-told t h)))
         (none-passes (strikes g ends q) faults e (t .fault) (h .valid .known)))
 
 -- the two traces of a valid series are traces
 module _ (g : Automaton) (faults : List FaultStep) (good : (s : FaultStep) → In s faults → Good g s) (s : Series) (v : Valid g faults s) where
+  around : (x : List ℕ) → Trace g x → Trace g (s .before ++ (x ++ s .after))
+  around x t = trace-append g (s .before) (x ++ s .after) (v .before-trace) (trace-append g x (s .after) t (v .after-trace))
+
   pub sent-trace : Trace g (sentTrace s)
-  sent-trace = trace-append g (s .before) (s .fault .sent ++ s .after) (v .before-trace) (trace-append g (s .fault .sent) (s .after) (good (s .fault) (v .known) .sent-trace) (v .after-trace))
+  sent-trace = around (s .fault .sent) (good (s .fault) (v .known) .sent-trace)
 
   pub received-trace : Trace g (receivedTrace s)
-  received-trace = trace-append g (s .before) (s .fault .received ++ s .after) (v .before-trace) (trace-append g (s .fault .received) (s .after) (good (s .fault) (v .known) .received-trace) (v .after-trace))
+  received-trace = around (s .fault .received) (good (s .fault) (v .known) .received-trace)
 
 -- only the test on states matters
 pub harmful-same : (g : Automaton) (ends h : ℕ → ℕ → Bool) (faults : List FaultStep) → Closed g → ((s : FaultStep) → In s faults → Good g s)
@@ -236,4 +249,5 @@ harmful-same g ends h faults c good same q q-in =
     (λ s i.
     let r = in-each s (suc (horizon (g .states))) (series faults (g .symbols)) i in
     let v = series-in g faults (r .index) s (r .here) .valid in
-    same (run g q (sentTrace s)) (run g q (receivedTrace s)) (run-in c q (sentTrace s) q-in (sent-trace g faults good s v)) (run-in c q (receivedTrace s) q-in (received-trace g faults good s v)))
+    same (run g q (sentTrace s)) (run g q (receivedTrace s)) (run-in c q (sentTrace s) q-in (sent-trace g faults good s v))
+    (run-in c q (receivedTrace s) q-in (received-trace g faults good s v)))

@@ -20,7 +20,8 @@ abbrev pub asks : List Question → List ℕ → Answer
 asks [] values = answered values
 asks (q ∷ qs) values = cond (q .yes) (asks qs values) (refused (q .number) (q .place))
 
--- "A refusal leaves lent areas untouched"; otherwise the bytes fill the first places, and "the bytes behind keep their contents"
+-- "A refusal leaves lent areas untouched"; otherwise the bytes fill the first places, and "the bytes behind keep their
+-- contents"
 abbrev pub written : Answer → List ℕ → List ℕ → List ℕ
 written (refused number place) bytes area = area
 written (answered values) bytes area = bytes ++ drop (length bytes) area

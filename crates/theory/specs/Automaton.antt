@@ -37,7 +37,8 @@ unfoldable pub within : Automaton → (ℕ → Bool) → ℕ → ℕ → Bool
 within g f zero q = f q
 within g f (suc r) q = f q || any (g .symbols) (λ a. within g f r (g .next q a))
 
--- some trace of any length leads from q to a state that passes the test: with n states, n symbols are enough (proofs/Reach.antt)
+-- some trace of any length leads from q to a state that passes the test: with n states, n symbols are enough
+-- (proofs/Reach.antt)
 unfoldable pub leads : Automaton → (ℕ → Bool) → ℕ → Bool
 leads g f q = within g f (g .states) q
 

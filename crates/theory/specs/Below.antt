@@ -1,4 +1,5 @@
--- Tests of the numbers below a bound: whether some number passes, how many pass, which is the first; and the values at these numbers.
+-- Tests of the numbers below a bound: whether some number passes, how many pass, which is the first; and the values at
+-- these numbers.
 use mathlib.Core.Bool.{Bool, false, cond, _||_}
 use mathlib.Core.List.{List, [], _∷_, _++_}
 use Prim.Native.Nat.{ℕ, zero, suc}

@@ -1,4 +1,5 @@
--- The first witness and the distance, computed: the first harmful series among all that are not longer than a horizon. That no more is needed is a law (proofs/Witness.antt).
+-- The first witness and the distance, computed: the first harmful series among all that are not longer than a horizon.
+-- That no more is needed is a law (proofs/Witness.antt).
 use mathlib.Core.Bool.{Bool}
 use mathlib.Core.List.{List}
 use mathlib.Core.Option.{Option, none, some}

@@ -1,4 +1,5 @@
--- Harm done by faults, joined traces, the distance of a table, and the first witness: "by table, set and reading, and by nothing that the search notes down".
+-- Harm done by faults, joined traces, the distance of a table, and the first witness: "by table, set and reading, and
+-- by nothing that the search notes down".
 use mathlib.Core.Path.{_≡_}
 use mathlib.Core.Bool.{Bool, true, not}
 use mathlib.Core.List.{List}
@@ -21,7 +22,8 @@ module _ (g : Automaton) (faults : List FaultStep) where
     pub is-sent : sent ≡ sentTrace by
     pub is-received : received ≡ receivedTrace by
 
-  -- "a series of traces leads from one to the other in which, of every two neighbours, one is the other after one fault of the set; each trace is joined to itself"
+  -- "a series of traces leads from one to the other in which, of every two neighbours, one is the other after one fault
+  -- of the set; each trace is joined to itself"
   pub data Joined : List ℕ → List ℕ → Type 0 where
     itself : {x : List ℕ} → Trace g x → Joined x x
     forth : {x y z : List ℕ} → Faulted x y → Joined y z → Joined x z
@@ -53,11 +55,13 @@ reads m d w = reading m d (run (m .automaton) (m .start) w)
 abbrev pub faultsOf : Monitor → ℕ → List FaultStep
 faultsOf m set = steps set (m .automaton .symbols)
 
--- "a sent trace is harmed if one fault of the set, at any one place in it, makes of it a received trace with another reading"
+-- "a sent trace is harmed if one fault of the set, at any one place in it, makes of it a received trace with another
+-- reading"
 abbrev pub Harmed : Monitor → ℕ → ℕ → List ℕ → Type 0
 Harmed m d set = HarmedFrom (m .automaton) (faultsOf m set) (differ m d) (m .start)
 
--- "Several faults harm a sent trace if a series of traces starts with it, [..] and the last has another reading than the first."
+-- "Several faults harm a sent trace if a series of traces starts with it, [..] and the last has another reading than
+-- the first."
 pub record HarmedBySeveral (m : Monitor) (d set : ℕ) (sent : List ℕ) : Type 0 where
   pub last : List ℕ
   pub chain : Chained (m .automaton) (faultsOf m set) sent last
@@ -67,7 +71,8 @@ pub record HarmedBySeveral (m : Monitor) (d set : ℕ) (sent : List ℕ) : Type 
 abbrev pub Distance : Monitor → ℕ → ℕ → Extent → Type 0
 Distance m d set = ShortestLength (Harmed m d set)
 
--- "With any number of faults allowed, the distance is the length of the shortest sent trace harmed so, and missing if there is none."
+-- "With any number of faults allowed, the distance is the length of the shortest sent trace harmed so, and missing if
+-- there is none."
 abbrev pub DistanceOfSeveral : Monitor → ℕ → ℕ → Extent → Type 0
 DistanceOfSeveral m d set = ShortestLength (HarmedBySeveral m d set)
 

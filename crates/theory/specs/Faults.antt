@@ -1,4 +1,5 @@
--- The faults of a link as fault steps. Only these definitions say what a kind of fault does; the cards and the listing name the kinds by their bits, and all else is about any fault step.
+-- The faults of a link as fault steps. Only these definitions say what a kind of fault does; the cards and the listing
+-- name the kinds by their bits, and all else is about any fault step.
 use mathlib.Core.Bool.{Bool, cond}
 use mathlib.Core.List.{List, [], _∷_}
 use Prim.Native.Nat.{ℕ, zero, suc, _-_, _/_, _%_, _^_}
@@ -6,7 +7,8 @@ use lib.Bits.{bitOr}
 use lib.Dec.{eqb}
 use Rattle.theory.specs.Lists.{each}
 
--- a fault at work: its kind (01's fixed bit), the symbols it covers, the symbols delivered in their place, and the replacement ("0 except for corruption")
+-- a fault at work: its kind (01's fixed bit), the symbols it covers, the symbols delivered in their place, and the
+-- replacement ("0 except for corruption")
 pub record FaultStep : Type 0 where
   pub kind : ℕ
   pub sent : List ℕ
@@ -67,6 +69,7 @@ together F G = bitOr F G
 abbrev pub stepsOfKind : ℕ → ℕ → List FaultStep
 stepsOfKind k c = each k (λ a. each (seconds c k) (λ b. stepOf c a b ∷ []))
 
--- the fault steps of a set among k symbols, in the written order: "by kind (loss, corruption, repeat, swap), then sent messages, then replacement"
+-- the fault steps of a set among k symbols, in the written order: "by kind (loss, corruption, repeat, swap), then sent
+-- messages, then replacement"
 unfoldable pub steps : ℕ → ℕ → List FaultStep
 steps set k = each kinds (λ c. cond (holds set c) (stepsOfKind k c) [])

@@ -1,4 +1,4 @@
--- Lists of any kind: what is in a list, the first that passes a test, lists joined number by number, and lists that rise.
+-- Lists of any kind: what is in a list, the first that passes a test, lists joined number by number, rising lists.
 use mathlib.Core.Path.{_≡_}
 use mathlib.Core.Bool.{Bool, cond}
 use mathlib.Core.List.{List, [], _∷_, _++_}

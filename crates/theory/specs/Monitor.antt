@@ -1,5 +1,6 @@
--- Three-valued monitors (01's tables), the six classes of their states, and the four monitorabilities. Classes and monitorability stand
--- here twice: as published (document 004, definitions 8 and 10, lemma 3), by the existence of traces; and as numbers that compute.
+-- Three-valued monitors (01's tables), the six classes of their states, and the four monitorabilities. Classes and
+-- monitorability stand here twice: as published (document 004, definitions 8 and 10, lemma 3), by the existence of
+-- traces; and as numbers that compute.
 -- proofs/Exact.antt shows that the two say the same.
 use mathlib.Core.Path.{_≡_}
 use mathlib.Core.Bool.{Bool, true, false, cond, _&&_}
@@ -31,7 +32,8 @@ pub record WellFormed (limit : ℕ) (m : Monitor) : Type 0 where
   pub start-in : m .start < m .automaton .states
   pub closed : Closed (m .automaton)
   pub verdict-in : (q : ℕ) → q < m .automaton .states → m .verdict q ≤ 2
-  pub verdict-kept : (q a : ℕ) → q < m .automaton .states → a < m .automaton .symbols → 0 < m .verdict q → m .verdict (m .automaton .next q a) ≡ m .verdict q
+  pub verdict-kept : (q a : ℕ) → q < m .automaton .states → a < m .automaton .symbols → 0 < m .verdict q
+      → m .verdict (m .automaton .next q a) ≡ m .verdict q
 
 -- "a true state can be reached", and likewise a false one: a state with the verdict v
 pub record Finds (m : Monitor) (v q : ℕ) : Type 0 where
@@ -48,14 +50,16 @@ pub data Class (m : Monitor) (q : ℕ) : ℕ → Type 0 where
   neutral : m .verdict q ≡ 0 → Finds m 1 q → Finds m 2 q → Class m q 4
   ugly : m .verdict q ≡ 0 → ¬ (Finds m 1 q) → ¬ (Finds m 2 q) → Class m q 5
 
--- "good and positive give pos, bad and negative neg, neutral both, ugly none (definition 10); as numbers these four are 0 to 3"
+-- "good and positive give pos, bad and negative neg, neutral both, ugly none (definition 10); as numbers these four are
+-- 0 to 3"
 abbrev pub weak : ℕ → ℕ
 weak c = getD (0 ∷ 1 ∷ 0 ∷ 1 ∷ 2 ∷ 3 ∷ []) c 3
 
 -- "A table is none if any state reachable from the start is ugly (lemma 3), else as its start."
 pub data Monitorability (m : Monitor) : ℕ → Type 0 where
   none : (q : ℕ) → Reaches (m .automaton) (m .start) q → Class m q 5 → Monitorability m 3
-  as-start : (c : ℕ) → ((q : ℕ) → Reaches (m .automaton) (m .start) q → ¬ (Class m q 5)) → Class m (m .start) c → Monitorability m (weak c)
+  as-start : (c : ℕ) → ((q : ℕ) → Reaches (m .automaton) (m .start) q → ¬ (Class m q 5)) → Class m (m .start) c
+      → Monitorability m (weak c)
 
 -- state q has the verdict v
 abbrev pub marked : Monitor → ℕ → ℕ → Bool

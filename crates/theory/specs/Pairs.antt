@@ -1,4 +1,5 @@
--- Pairs of states told apart by traces, for any test `ends` of the two states reached. Readings that differ are one such test.
+-- Pairs of states told apart by traces, for any test `ends` of the two states reached. Readings that differ are one
+-- such test.
 use mathlib.Core.Path.{_≡_}
 use mathlib.Core.Bool.{Bool, true, _||_}
 use mathlib.Core.List.{List}
@@ -18,6 +19,7 @@ module _ (g : Automaton) (ends : ℕ → ℕ → Bool) where
   told zero p q = ends p q
   told (suc r) p q = told r p q || any (g .symbols) (λ a. told r (g .next p a) (g .next q a))
 
-  -- "a pair's distance is the fewest messages after which its two states read differently", here: pass the test; missing where no trace does it
+  -- "a pair's distance is the fewest messages after which its two states read differently", here: pass the test;
+  -- missing where no trace does it
   abbrev pub PairDistance : ℕ → ℕ → Extent → Type 0
   PairDistance p q = ShortestLength (Tells p q)

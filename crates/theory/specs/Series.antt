@@ -10,7 +10,8 @@ use Rattle.theory.specs.Lists.{In, each}
 use Rattle.theory.specs.Automaton.{Automaton, Trace, run}
 use Rattle.theory.specs.Faults.{FaultStep}
 
--- "a series of steps: plain messages and exactly one fault step": the plain symbols before it, the fault step, the plain symbols after it
+-- "a series of steps: plain messages and exactly one fault step": the plain symbols before it, the fault step, the
+-- plain symbols after it
 pub record Series : Type 0 where
   pub before : List ℕ
   pub fault : FaultStep
@@ -44,7 +45,10 @@ Lower (a ∷ v) (b ∷ w) = (a < b) ⊎ ((a ≡ b) × Lower v w)
 
 -- "fault steps by kind (loss, corruption, repeat, swap), then sent messages, then replacement"
 abbrev pub StepFirst : FaultStep → FaultStep → Type 0
-StepFirst s t = (s .kind < t .kind) ⊎ ((s .kind ≡ t .kind) × (Lower (s .sent) (t .sent) ⊎ ((s .sent ≡ t .sent) × (s .replacement < t .replacement))))
+StepFirst s t =
+    (s .kind < t .kind)
+    ⊎ ((s .kind ≡ t .kind)
+    × (Lower (s .sent) (t .sent) ⊎ ((s .sent ≡ t .sent) × (s .replacement < t .replacement))))
 
 -- "compared step by step: a fault step before a plain one; [..] plain steps by message"
 abbrev pub StepByStep : List ℕ → FaultStep → List ℕ → List ℕ → FaultStep → List ℕ → Type 0
@@ -55,7 +59,10 @@ StepByStep (a ∷ x) s v (b ∷ y) t w = (a < b) ⊎ ((a ≡ b) × StepByStep x 
 
 -- "The shorter sent trace comes first; among equals, the series are compared step by step"
 abbrev pub Precedes : Series → Series → Type 0
-Precedes s t = (length (sentTrace s) < length (sentTrace t)) ⊎ ((length (sentTrace s) ≡ length (sentTrace t)) × StepByStep (s .before) (s .fault) (s .after) (t .before) (t .fault) (t .after))
+Precedes s t =
+    (length (sentTrace s) < length (sentTrace t))
+    ⊎ ((length (sentTrace s) ≡ length (sentTrace t))
+    × StepByStep (s .before) (s .fault) (s .after) (t .before) (t .fault) (t .after))
 
 -- ---- all of one length (proofs/Series.antt: exactly the valid ones, rising in the written order)
 
@@ -66,7 +73,10 @@ words k (suc l) = each k (λ a. map (λ (w : List ℕ). a ∷ w) (words k l))
 
 -- the series that begin with the fault step s, with l symbols sent
 abbrev pub struck : ℕ → ℕ → FaultStep → List Series
-struck k l s = cond (leb (length (s .sent)) l) (map (λ (w : List ℕ). record { before = []; fault = s; after = w }) (words k (l - length (s .sent)))) []
+struck k l s =
+    cond (leb (length (s .sent)) l)
+    (map (λ (w : List ℕ). record { before = []; fault = s; after = w }) (words k (l - length (s .sent))))
+    []
 
 -- a plain step before a series
 abbrev pub plain : ℕ → Series → Series

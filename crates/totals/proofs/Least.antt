@@ -3,7 +3,8 @@ use mathlib.Core.Path.{_≡_, refl, sym, ap, subst, _∙_}
 use mathlib.Core.List.{List}
 use mathlib.Core.Logic.{⊎-elim}
 use Prim.Native.Nat.{ℕ, zero, suc, _+_, _≤_, _<_, min}
-use native.Mathlib.Nat.{le-refl, le-of-suc-le-suc, le-trans, le-antisymm, not-suc-le-zero, eq-or-lt-of-le, le-of-lt, min-le-left, min-le-right, min-eq-left, min-eq-right}
+use native.Mathlib.Nat.{le-refl, le-of-suc-le-suc, le-trans, le-antisymm, not-suc-le-zero, eq-or-lt-of-le, le-of-lt, min-le-left, min-le-right, min-eq-left}
+use native.Mathlib.Nat.{min-eq-right}
 use native.Mathlib.Numerals.{add-one}
 use native.Mathlib.Omega.{arith}
 use lib.ListN.{length, getD, set}
@@ -23,7 +24,8 @@ pub least-le : (n : ℕ) (f : ℕ → ℕ) (i : ℕ) → i < n → least n f ≤
 unfolding least
 least-le zero f i l = absurd (not-suc-le-zero l)
 least-le (suc n) f i l =
-    ⊎-elim (λ e. subst (λ (x : ℕ). min (f n) (least n f) ≤ f x) (sym e) (min-le-left (f n) (least n f))) (λ s. le-trans (min-le-right (f n) (least n f)) (least-le n f i s))
+    ⊎-elim (λ e. subst (λ (x : ℕ). min (f n) (least n f) ≤ f x) (sym e) (min-le-left (f n) (least n f)))
+    (λ s. le-trans (min-le-right (f n) (least n f)) (least-le n f i s))
     (eq-or-lt-of-le (le-of-suc-le-suc l))
 
 -- a least below never is the value of some number

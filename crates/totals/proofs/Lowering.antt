@@ -13,22 +13,18 @@ use Rattle.theory.specs.Automaton.{Automaton, Closed, Trace, run}
 use Rattle.theory.specs.Monitor.{stateLimit}
 use Rattle.theory.proofs.Below.{lt-or-le}
 use Rattle.pairs.specs.Square.{never}
-use Rattle.totals.specs.Totals.{leastAfter, lowers, Bounded, Attained, Lowering, Relaxed}
+use Rattle.totals.specs.Totals.{leastAfter, lowers, lowered, Bounded, Attained, Lowering, Relaxed}
 use Rattle.totals.proofs.Least.{least-found, sum-falls}
 
 -- the total of the state after p by a
 abbrev pub totalAfter : Automaton → List ℕ → ℕ → ℕ → ℕ
 totalAfter g v p a = getD v (g .next p a) 0
 
--- what lowering at p comes to
-abbrev pub loweredAt : Automaton → List ℕ → ℕ → List ℕ
-loweredAt g v p = cond (lowers g v p) (set v p (leastAfter g v p + 1)) v
-
 module _ (g : Automaton) (v : List ℕ) (p : ℕ) {l : ℕ} (e : l ≡ leastAfter g v p) where
-  pub lowered-there : l + 1 < getD v p 0 → (_≡_ {A = ℕ} 1 (cond (lowers g v p) 1 0)) × (set v p (l + 1) ≡ loweredAt g v p)
+  pub lowered-there : l + 1 < getD v p 0 → (_≡_ {A = ℕ} 1 (cond (lowers g v p) 1 0)) × (set v p (l + 1) ≡ lowered g v p)
   lowered-there h = rw (e, lt-ltb (leastAfter g v p + 1) (getD v p 0) (rw e at h)) (refl, refl)
 
-  pub not-lowered : getD v p 0 ≤ l + 1 → (_≡_ {A = ℕ} 0 (cond (lowers g v p) 1 0)) × (v ≡ loweredAt g v p)
+  pub not-lowered : getD v p 0 ≤ l + 1 → (_≡_ {A = ℕ} 0 (cond (lowers g v p) 1 0)) × (v ≡ lowered g v p)
   not-lowered h = rw (le-ltb (leastAfter g v p + 1) (getD v p 0) (rw e at h)) (refl, refl)
 
 -- at most one is lower
@@ -41,7 +37,8 @@ lowering-begins b = record { bounded = b; falls = omega arith; quiet = λ _. (re
 
 module _ (g : Automaton) (closed : Closed g) (fits : g .states ≤ stateLimit) (p : ℕ) (inside : p < g .states) where
   -- a property of the total at each state holds after a store at p if it holds of what is stored and of the others
-  at-each : (P : ℕ → ℕ → Type 0) (v : List ℕ) (x : ℕ) → Bounded (g .states) v → P p x → ((q : ℕ) → q < g .states → P q (getD v q 0)) → (q : ℕ) → q < g .states → P q (getD (set v p x) q 0)
+  at-each : (P : ℕ → ℕ → Type 0) (v : List ℕ) (x : ℕ) → Bounded (g .states) v → P p x → ((q : ℕ) → q < g .states → P q (getD v q 0)) → (q : ℕ) → q < g .states
+      → P q (getD (set v p x) q 0)
   at-each P v x b here others q l = go (eqb q p) refl
     where
       go : (t : Bool) → eqb q p ≡ t → P q (getD (set v p x) q 0)
@@ -73,7 +70,8 @@ module _ (g : Automaton) (closed : Closed g) (fits : g .states ≤ stateLimit) (
     }
 
   -- the lowering at p
-  pub lowering-goes-on : {before v w : List ℕ} {changed r : ℕ} → Lowering g p changed before v → r ≡ cond (lowers g v p) 1 0 → w ≡ loweredAt g v p → Lowering g (p + 1) (changed + r) before w
+  pub lowering-goes-on : {before v w : List ℕ} {changed r : ℕ} → Lowering g p changed before v → r ≡ cond (lowers g v p) 1 0 → w ≡ lowered g v p
+      → Lowering g (p + 1) (changed + r) before w
   lowering-goes-on {before} {v} {w} {changed} {r} h er ew = rw (er, ew) (go (lowers g v p) refl)
     where
       go : (t : Bool) → lowers g v p ≡ t → Lowering g (p + 1) (changed + cond t 1 0) before (cond t (set v p (leastAfter g v p + 1)) v)
@@ -90,7 +88,7 @@ module _ (g : Automaton) (closed : Closed g) (fits : g .states ≤ stateLimit) (
         falls = omega (arith, h .falls);
         quiet = λ z.
             let s = h .quiet (omega arith) in
-            (s .0, λ q l. ⊎-elim (λ i. s .1 q i) (λ i. (let same : p ≡ q = omega arith in subst (λ (y : ℕ). lowers g before y ≡ false) same (subst (λ (u : List ℕ). lowers g u p ≡ false) (s .0) e))) (lt-or-le q p));
+            (s .0, λ q l. ⊎-elim (λ i. s .1 q i) (λ i. (let same : p ≡ q = omega arith in rw (← same, ← s .0) e)) (lt-or-le q p));
         attained = h .attained;
       }
 

@@ -1,6 +1,6 @@
 -- The way to the fault, written one symbol at a time: part written, part to come.
 use mathlib.Core.Path.{_≡_, refl, sym, _∙_, ap}
-use mathlib.Core.Bool.{Bool, true, false}
+use mathlib.Core.Bool.{Bool}
 use mathlib.Core.List.{List, [], _∷_}
 use mathlib.Core.Logic.{⊎-elim}
 use Prim.Native.Nat.{ℕ, zero, suc, _+_, _-_, _≤_, _<_}
@@ -13,19 +13,15 @@ use borrow.Author.Tests.{eq-eqb, ne-eqb, eqb-true}
 use Rattle.theory.specs.Automaton.{Automaton, Closed, run}
 use Rattle.theory.proofs.Below.{first-here}
 use Rattle.pairs.specs.Square.{never}
-use Rattle.totals.specs.Totals.{onward, approach, Leading}
+use Rattle.totals.specs.Totals.{onward, approach, wayToFault, Leading}
 
 -- symbol a leads from p to a state with the total l
 abbrev pub leadsToTotal : Automaton → List ℕ → ℕ → ℕ → ℕ → Bool
 leadsToTotal g v l p a = eqb (getD v (g .next p a) 0) l
 
 -- x is the state after p by a
-module _ (g : Automaton) (v : List ℕ) (l p a : ℕ) {x : ℕ} (e : x ≡ g .next p a) where
-  pub leads-there : getD v x 0 ≡ l → leadsToTotal g v l p a ≡ true
-  leads-there h = rw (← e) (eq-eqb (getD v x 0) l h)
-
-  pub leads-elsewhere : (getD v x 0 ≡ l → ⊥) → leadsToTotal g v l p a ≡ false
-  leads-elsewhere h = rw (← e) (ne-eqb (getD v x 0) l h)
+pub leads-as : (g : Automaton) (v : List ℕ) (l p a : ℕ) {x : ℕ} {b : Bool} → x ≡ g .next p a → eqb (getD v x 0) l ≡ b → leadsToTotal g v l p a ≡ b
+leads-as g v l p a e h = rw (← e) h
 
 module _ (g : Automaton) (v costs : List ℕ) where
   approach-ends : (l p : ℕ) → getD costs p 0 ≡ l → approach g v costs l p ≡ []
@@ -33,13 +29,10 @@ module _ (g : Automaton) (v costs : List ℕ) where
   approach-ends zero p e = refl
   approach-ends (suc l) p e = rw (eq-eqb (getD costs p 0) (suc l) e)
 
-  approach-goes-on : (l p : ℕ) → (getD costs p 0 ≡ suc l → ⊥) → approach g v costs (suc l) p ≡ onward g v l p ∷ approach g v costs l (g .next p (onward g v l p))
+  approach-goes-on : (l p : ℕ) → (getD costs p 0 ≡ suc l → ⊥)
+      → approach g v costs (suc l) p ≡ onward g v l p ∷ approach g v costs l (g .next p (onward g v l p))
   unfolding approach
   approach-goes-on l p ne = rw (ne-eqb (getD costs p 0) (suc l) ne)
-
-  -- all that is written from `start` on
-  abbrev pub whole : ℕ → List ℕ
-  whole start = approach g v costs (getD v start 0) start
 
   -- p is reached and i symbols are written; `left` is the total of p
   pub record Walk (start : ℕ) (before area : List ℕ) (p i left : ℕ) : Type 0 where
@@ -48,9 +41,9 @@ module _ (g : Automaton) (v costs : List ℕ) where
     pub low : left < never
     pub total : i + left ≡ getD v start 0
     pub size : length area ≡ length before
-    pub written : sets area i (approach g v costs left p) ≡ sets before 0 (whole start)
-    pub count : i + length (approach g v costs left p) ≡ length (whole start)
-    pub leads : run g p (approach g v costs left p) ≡ run g start (whole start)
+    pub written : sets area i (approach g v costs left p) ≡ sets before 0 (wayToFault g v costs start)
+    pub count : i + length (approach g v costs left p) ≡ length (wayToFault g v costs start)
+    pub leads : run g p (approach g v costs left p) ≡ run g start (wayToFault g v costs start)
 
   pub walk-begins : {start : ℕ} {area : List ℕ} → start < g .states → getD v start 0 < never → Walk start area area start 0 (getD v start 0)
   walk-begins l s = record { inside = l; here = refl; low = s; total = omega arith; size = refl; written = refl; count = omega arith; leads = refl }
@@ -79,7 +72,9 @@ module _ {g : Automaton} {v costs before area : List ℕ} {start p i left : ℕ}
           rw eq
           (record {
             inside = closed .next-in p a (w .inside) walk-symbol;
-            here = rw ea (eqb-true (getD v (g .next p (onward g v (left - 1) p)) 0) (left - 1) (first-here (leadsToTotal g v (left - 1) p) 0 (g .symbols) (omega (arith, walk-symbol, ea))));
+            here =
+                rw ea (eqb-true (getD v (g .next p (onward g v (left - 1) p)) 0) (left - 1)
+                (first-here (leadsToTotal g v (left - 1) p) 0 (g .symbols) (omega (arith, walk-symbol, ea))));
             low = omega (arith, w .low);
             total = omega (arith, w .total, walk-left);
             size = length-set area i a ∙ w .size;
@@ -89,13 +84,13 @@ module _ {g : Automaton} {v costs before area : List ℕ} {start p i left : ℕ}
           })
 
   module _ (e : getD costs p 0 ≡ left) where
-    pub walk-written : area ≡ sets before 0 (whole g v costs start)
+    pub walk-written : area ≡ sets before 0 (wayToFault g v costs start)
     walk-written = rw (approach-ends g v costs left p e) at (w .written)
 
-    pub walk-count : i ≡ length (whole g v costs start)
+    pub walk-count : i ≡ length (wayToFault g v costs start)
     walk-count = (let n = ap length (approach-ends g v costs left p e) in omega (arith, w .count, n))
 
-    pub walk-state : p ≡ run g start (whole g v costs start)
+    pub walk-state : p ≡ run g start (wayToFault g v costs start)
     unfolding run
     walk-state = rw (approach-ends g v costs left p e) at (w .leads)
 

@@ -4,13 +4,14 @@ use theory::STATE_LIMIT;
 ghost use mathlib.Core.Path.{_≡_};
 ghost use mathlib.Core.Bool.{cond};
 ghost use Prim.Native.Nat.{_+_, _≤_, _<_};
-ghost use lib.ListN.{length, getD, set};
+ghost use lib.ListN.{length, getD};
 ghost use lib.Seq.{sets};
 ghost use Rattle.theory.specs.Automaton.{run};
 ghost use Rattle.theory.specs.Monitor.{stateLimit};
-ghost use Rattle.monitor.specs.Format.{Rows, automatonOf};
+ghost use Rattle.monitor.specs.Format.{Rows, graph};
 ghost use Rattle.pairs.specs.Square.{never};
-ghost use Rattle.totals.specs.Totals.{leastAfter, lowers, Bounded, Lowering, Relaxed, onward, approach, Leading};
+ghost use Rattle.totals.specs.Totals.{leastAfter, lowers, lowered, Bounded, Lowering, Relaxed};
+ghost use Rattle.totals.specs.Totals.{onward, wayToFault, Leading};
 
 // Where the symbols before a fault lead, and how many they are.
 pub struct Approach {
@@ -20,8 +21,10 @@ pub struct Approach {
 
 // The least total of the states after p.
 fn least_after(totals: &[usize; STATE_LIMIT], nexts: &[u8], n: usize, k: usize, p: usize) -> usize
-    requires { ⌜ Rows stateLimit n k (now nexts) × (p < n) ⌝ }
-    ensures { λ r. ⌜ (r ≡ leastAfter (automatonOf n k (now (nexts .entry))) (now (totals .entry)) p) × (r ≤ never) ⌝ }
+    requires { ⌜ Rows stateLimit n k (now nexts)
+        × (p < n) ⌝ }
+    ensures { λ r. ⌜ (r ≡ leastAfter (graph n k (nexts .entry)) (now (totals .entry)) p)
+        × (r ≤ never) ⌝ }
 {
     let mut least = NEVER;
     let mut a = 0;
@@ -35,9 +38,10 @@ fn least_after(totals: &[usize; STATE_LIMIT], nexts: &[u8], n: usize, k: usize, 
 
 // Lowers the total of p to one above the least of the states after it. Returns 1 where that is lower, else 0.
 fn lower(totals: &mut [usize; STATE_LIMIT], nexts: &[u8], n: usize, k: usize, p: usize) -> usize
-    requires { ⌜ Rows stateLimit n k (now nexts) × (p < n) ⌝ }
-    ensures changed { λ r. ⌜ r ≡ cond (lowers (automatonOf n k (now (nexts .entry))) (now (totals .entry)) p) 1 0 ⌝ }
-    ensures totals { λ _. ⌜ now (totals .exit) ≡ cond (lowers (automatonOf n k (now (nexts .entry))) (now (totals .entry)) p) (set (now (totals .entry)) p (leastAfter (automatonOf n k (now (nexts .entry))) (now (totals .entry)) p + 1)) (now (totals .entry)) ⌝ }
+    requires { ⌜ Rows stateLimit n k (now nexts)
+        × (p < n) ⌝ }
+    ensures changed { λ r. ⌜ r ≡ cond (lowers (graph n k (nexts .entry)) (now (totals .entry)) p) 1 0 ⌝ }
+    ensures totals { λ _. ⌜ now (totals .exit) ≡ lowered (graph n k (nexts .entry)) (now (totals .entry)) p ⌝ }
 {
     let next = least_after(totals, nexts, n, k, p) + 1;
     if next < totals[p] {
@@ -49,8 +53,9 @@ fn lower(totals: &mut [usize; STATE_LIMIT], nexts: &[u8], n: usize, k: usize, p:
 
 // One pass over all totals. Returns how many were lowered.
 fn lower_all(totals: &mut [usize; STATE_LIMIT], nexts: &[u8], n: usize, k: usize) -> usize
-    requires { ⌜ Rows stateLimit n k (now nexts) × Bounded n (now totals) ⌝ }
-    ensures { λ r. ⌜ Lowering (automatonOf n k (now (nexts .entry))) n r (now (totals .entry)) (now (totals .exit)) ⌝ }
+    requires { ⌜ Rows stateLimit n k (now nexts)
+        × Bounded n (now totals) ⌝ }
+    ensures { λ r. ⌜ Lowering (graph n k (nexts .entry)) n r (now (totals .entry)) (now (totals .exit)) ⌝ }
 {
     let mut changed = 0;
     let mut p = 0;
@@ -63,8 +68,9 @@ fn lower_all(totals: &mut [usize; STATE_LIMIT], nexts: &[u8], n: usize, k: usize
 
 // Passes over the totals, which begin as the costs of the states, until a pass lowers none.
 pub fn relax(totals: &mut [usize; STATE_LIMIT], nexts: &[u8], n: usize, k: usize)
-    requires { ⌜ Rows stateLimit n k (now nexts) × Bounded n (now totals) ⌝ }
-    ensures { λ _. ⌜ Relaxed (automatonOf n k (now (nexts .entry))) (now (totals .entry)) (now (totals .exit)) ⌝ }
+    requires { ⌜ Rows stateLimit n k (now nexts)
+        × Bounded n (now totals) ⌝ }
+    ensures { λ _. ⌜ Relaxed (graph n k (nexts .entry)) (now (totals .entry)) (now (totals .exit)) ⌝ }
 {
     while lower_all(totals, nexts, n, k) > 0 {}
 }
@@ -78,8 +84,9 @@ fn onward_by(
     total: usize,
     p: usize,
 ) -> usize
-    requires { ⌜ Rows stateLimit n k (now nexts) × (p < n) ⌝ }
-    ensures { λ r. ⌜ r ≡ onward (automatonOf n k (now (nexts .entry))) (now (totals .entry)) total p ⌝ }
+    requires { ⌜ Rows stateLimit n k (now nexts)
+        × (p < n) ⌝ }
+    ensures { λ r. ⌜ r ≡ onward (graph n k (nexts .entry)) (now (totals .entry)) total p ⌝ }
 {
     let mut a = 0;
     while a < k {
@@ -102,11 +109,22 @@ pub fn write_before(
     start: usize,
     area: &mut [u8],
 ) -> Approach
-    requires { ⌜ Rows stateLimit n k (now nexts) × Leading (automatonOf n k (now nexts)) (now totals) (now costs) × (start < n) × (getD (now totals) start 0 < never) × (getD (now totals) start 0 ≤ length (now area)) ⌝ }
-    ensures area { λ _. ⌜ now (area .exit) ≡ sets (now (area .entry)) 0 (approach (automatonOf n k (now (nexts .entry))) (now (totals .entry)) (now (costs .entry)) (getD (now (totals .entry)) start 0) start) ⌝ }
-    ensures count { λ r. ⌜ r .count ≡ length (approach (automatonOf n k (now (nexts .entry))) (now (totals .entry)) (now (costs .entry)) (getD (now (totals .entry)) start 0) start) ⌝ }
-    ensures state { λ r. ⌜ (r .state ≡ run (automatonOf n k (now (nexts .entry))) start (approach (automatonOf n k (now (nexts .entry))) (now (totals .entry)) (now (costs .entry)) (getD (now (totals .entry)) start 0) start)) × (r .state < n) ⌝ }
-    ensures cost { λ r. ⌜ r .count + getD (now (costs .entry)) (r .state) 0 ≡ getD (now (totals .entry)) start 0 ⌝ }
+    requires { ⌜ Rows stateLimit n k (now nexts)
+        × Leading (graph n k nexts) (now totals) (now costs)
+        × (start < n)
+        × (getD (now totals) start 0 < never)
+        × (getD (now totals) start 0 ≤ length (now area)) ⌝ }
+    ensures area { λ _. ⌜ now (area .exit)
+        ≡ sets (now (area .entry)) 0
+        (wayToFault (graph n k (nexts .entry)) (now (totals .entry)) (now (costs .entry)) start) ⌝ }
+    ensures count { λ r. ⌜ r .count
+        ≡ length (wayToFault (graph n k (nexts .entry)) (now (totals .entry)) (now (costs .entry)) start) ⌝ }
+    ensures state { λ r. ⌜ (r .state
+        ≡ run (graph n k (nexts .entry)) start
+        (wayToFault (graph n k (nexts .entry)) (now (totals .entry)) (now (costs .entry)) start))
+        × (r .state < n) ⌝ }
+    ensures cost { λ r. ⌜ r .count + getD (now (costs .entry)) (r .state) 0
+        ≡ getD (now (totals .entry)) start 0 ⌝ }
 {
     let mut p = start;
     let mut i = 0;

@@ -30,13 +30,18 @@ is-digit-requires : tie.Need-is-digit-requires Inv-loop μ-loop
 is-digit-requires c κs = search needs
 
 returns-2 : tie.Need-returns-2 Inv-loop μ-loop
-returns-2 c = reads-other (c .before .before .before .before .loop .inv) (c .before .before .before .loop-test .taken) (sym (c .before .is-digit .ensures) ∙ not-true (c .before .is-digit .result) (c .if2 .taken))
+returns-2 c =
+    let d = c .before .is-digit in
+    reads-other (c .before .before .before .before .loop .inv) (c .before .before .before .loop-test .taken)
+    (sym (d .ensures) ∙ not-true (d .result) (c .if2 .taken))
 
 shared-slice-read-digit : tie.Need-shared-slice-read-digit Inv-loop μ-loop
 shared-slice-read-digit c = search needs
 
 -- past the test the byte is a digit
-digit : (c : tie.After-shared-slice-known3 Inv-loop μ-loop) → isDigit (getD (c .before .before .before .before .before .before .before .before .args .text .now) (c .before .before .before .before .before .loop .i) 0) ≡ true
+digit : (c : tie.After-shared-slice-known3 Inv-loop μ-loop)
+    → isDigit (getD (c .before .before .before .before .before .before .before .before .args .text .now)
+    (c .before .before .before .before .before .loop .i) 0) ≡ true
 digit c = sym (c .before .before .is-digit .ensures) ∙ not-false (c .before .before .is-digit .result) (c .before .if2 .left)
 
 sub-digit : tie.Need-sub-digit Inv-loop μ-loop
@@ -49,7 +54,7 @@ mul-least-of : tie.Need-mul-least-of Inv-loop μ-loop
 mul-least-of c = omega (arith, c .before .before .before .before .before .loop .inv .small)
 
 add-least-of : tie.Need-add-least-of Inv-loop μ-loop
-add-least-of c = omega (arith, c .before .before .before .before .before .loop .inv .small, c .shared-slice-known3 .given (c .before .before .before .before .before .loop .i))
+add-least-of c = (let at = c .before .before .before .before .before .loop in omega (arith, at .inv .small, c .shared-slice-known3 .given (at .i)))
 
 least-of-requires : tie.Need-least-of-requires Inv-loop μ-loop
 least-of-requires c κs = search needs
@@ -61,29 +66,14 @@ loop-less : tie.Need-loop-less Inv-loop μ-loop
 loop-less c = search needs
 
 loop-again : tie.Need-loop-again Inv-loop μ-loop
-loop-again c = reads-digit (c .before .before .before .before .before .before .loop .inv) (c .before .before .before .before .before .loop-test .taken) (digit (c .before)) (c .least-of .ensures)
+loop-again c =
+    let at = c .before .before .before .before .before in
+    reads-digit (at .before .loop .inv) (at .loop-test .taken) (digit (c .before)) (c .least-of .ensures)
 
 returns-3 : tie.Need-returns-3 Inv-loop μ-loop
 returns-3 c = reads-all (c .before .loop .inv) (omega (arith, c .before .before .if1 .left)) (c .loop-test .left)
 
 pub read-decimal-spec : {M : Type 1} → statement M
 read-decimal-spec =
-    tie.close
-    (tie.spec
-    Inv-loop
-    μ-loop
-    returns
-    loop-holds
-    shared-slice-read-is-digit
-    is-digit-requires
-    returns-2
-    shared-slice-read-digit
-    sub-digit
-    cast-digit
-    mul-least-of
-    add-least-of
-    least-of-requires
-    add-i
-    loop-less
-    loop-again
-    returns-3)
+    tie.close (tie.spec Inv-loop μ-loop returns loop-holds shared-slice-read-is-digit is-digit-requires returns-2 shared-slice-read-digit sub-digit
+    cast-digit mul-least-of add-least-of least-of-requires add-i loop-less loop-again returns-3)

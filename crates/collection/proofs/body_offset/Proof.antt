@@ -25,9 +25,11 @@ add-result : tie.Need-add-result
 add-result c = search needs
 
 returns : tie.Need-returns
-returns c = (four-is (c .before .before .entry .result .now) (c .before .two-bytes-at .ensures .0) (c .two-bytes-at2 .ensures .0) ∙ ap (λ (l : List ℕ). numberAt 4 l 0) (c .before .before .entry .ensures), omega (arith, c .before .two-bytes-at .ensures .1, c .two-bytes-at2 .ensures .1))
+returns c =
+    let bytes = c .before .before .entry in
+    let low = c .before .two-bytes-at .ensures in
+    let high = c .two-bytes-at2 .ensures in
+    (four-is (bytes .result .now) (low .0) (high .0) ∙ ap (λ (l : List ℕ). numberAt 4 l 0) (bytes .ensures), omega (arith, low .1, high .1))
 
 pub body-offset-spec : {M : Type 1} → statement M
-body-offset-spec =
-    tie.close
-    (tie.spec entry-requires two-bytes-at-requires two-bytes-at-requires-2 mul-result add-result returns)
+body-offset-spec = tie.close (tie.spec entry-requires two-bytes-at-requires two-bytes-at-requires-2 mul-result add-result returns)

@@ -18,7 +18,9 @@ part-requires : tie.Need-part-requires
 part-requires c κs = search needs
 
 returns : tie.Need-returns
-returns c = c .part .ensures ∙ entry-there (c .before .before .before .before .args .file .now) (c .before .before .before .before .args .i) (c .before .before .two-bytes-at .ensures .0) (c .before .if1 .taken)
+returns c =
+    let a = c .before .before .before .before .args in
+    c .part .ensures ∙ entry-there (a .file .now) (a .i) (c .before .before .two-bytes-at .ensures .0) (c .before .if1 .taken)
 
 sub-result : tie.Need-sub-result
 sub-result c = search needs
@@ -30,18 +32,9 @@ part-result-end : tie.Need-part-result-end
 part-result-end c = search needs
 
 returns-2 : tie.Need-returns-2
-returns-2 c = entry-missing (c .before .before .before .before .args .file .now) (c .before .before .before .before .args .i) (c .before .before .two-bytes-at .ensures .0) (c .before .if1 .left)
+returns-2 c =
+    let a = c .before .before .before .before .args in
+    entry-missing (a .file .now) (a .i) (c .before .before .two-bytes-at .ensures .0) (c .before .if1 .left)
 
 pub entry-spec : {M : Type 1} → statement M
-entry-spec =
-    tie.close
-    (tie.spec
-    two-bytes-at-requires
-    mul-part
-    add-part
-    part-requires
-    returns
-    sub-result
-    part-result-start
-    part-result-end
-    returns-2)
+entry-spec = tie.close (tie.spec two-bytes-at-requires mul-part add-part part-requires returns sub-result part-result-start part-result-end returns-2)

@@ -9,10 +9,10 @@ use Rattle.collection.proofs.first_no.Statement.{statement}
 use Rattle.collection.proofs.first_no.Tie as tie
 
 abbrev Inv-loop : tie.InvT-loop
-Inv-loop file question count i₀ i = Passed (λ j. not (testOf file question j)) 0 count i
+Inv-loop file test count i₀ i = Passed (λ j. not (testOf test file j)) 0 count i
 
 abbrev μ-loop : tie.MeasureT-loop
-μ-loop file question count i₀ i = count - i
+μ-loop file test count i₀ i = count - i
 
 loop-holds : tie.Need-loop-holds Inv-loop μ-loop
 loop-holds c = scan-begins _ _ _
@@ -36,15 +36,4 @@ returns-2 : tie.Need-returns-2 Inv-loop μ-loop
 returns-2 c = scan-ends (c .before .loop .inv) (omega arith)
 
 pub first-no-spec : {M : Type 1} → statement M
-first-no-spec =
-    tie.close
-    (tie.spec
-    Inv-loop
-    μ-loop
-    loop-holds
-    passes-requires
-    returns
-    add-i
-    loop-less
-    loop-again
-    returns-2)
+first-no-spec = tie.close (tie.spec Inv-loop μ-loop loop-holds passes-requires returns add-i loop-less loop-again returns-2)

@@ -17,9 +17,9 @@ rule-number-requires-2 : tie.Need-rule-number-requires-2
 rule-number-requires-2 c κs = search needs
 
 returns-2 : tie.Need-returns-2
-returns-2 c = rises-later (c .before .before .before .before .args .file .now) (c .before .before .before .before .args .i) (c .before .before .if1 .left) (c .before .rule-number .ensures .0) (c .rule-number2 .ensures .0)
+returns-2 c =
+    let a = c .before .before .before .before .args in
+    rises-later (a .file .now) (a .i) (c .before .before .if1 .left) (c .before .rule-number .ensures .0) (c .rule-number2 .ensures .0)
 
 pub rises-spec : {M : Type 1} → statement M
-rises-spec =
-    tie.close
-    (tie.spec returns sub-rule-number rule-number-requires rule-number-requires-2 returns-2)
+rises-spec = tie.close (tie.spec returns sub-rule-number rule-number-requires rule-number-requires-2 returns-2)

@@ -32,19 +32,11 @@ add-result-2 : tie.Need-add-result-2
 add-result-2 c = search needs
 
 returns-2 : tie.Need-returns-2
-returns-2 c = starts-later (c .before .before .before .before .args .file .now) (c .before .before .before .before .args .i) (c .before .before .if1 .left) (c .before .body-offset .ensures .0) (c .body-length .ensures .0)
+returns-2 c =
+    let a = c .before .before .before .before .args in
+    starts-later (a .file .now) (a .i) (c .before .before .if1 .left) (c .before .body-offset .ensures .0) (c .body-length .ensures .0)
 
 pub start-of-body-spec : {M : Type 1} → statement M
 start-of-body-spec =
-    tie.close
-    (tie.spec
-    two-bytes-at-requires
-    mul-result
-    add-result
-    returns
-    sub-body-offset
-    body-offset-requires
-    sub-body-length
-    body-length-requires
-    add-result-2
-    returns-2)
+    tie.close (tie.spec two-bytes-at-requires mul-result add-result returns sub-body-offset body-offset-requires sub-body-length body-length-requires
+    add-result-2 returns-2)

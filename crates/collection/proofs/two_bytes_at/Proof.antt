@@ -21,9 +21,11 @@ add-result : tie.Need-add-result
 add-result c = search needs
 
 returns : tie.Need-returns
-returns c = (two-bytes-are (c .before .before .before .args .bytes .now) (c .before .before .before .args .at) (c .before .byte-at .ensures .0) (c .byte-at2 .ensures .0), omega (arith, c .before .byte-at .ensures .1, c .byte-at2 .ensures .1))
+returns c =
+    let a = c .before .before .before .args in
+    let low = c .before .byte-at .ensures in
+    let high = c .byte-at2 .ensures in
+    (two-bytes-are (a .bytes .now) (a .at) (low .0) (high .0), omega (arith, low .1, high .1))
 
 pub two-bytes-at-spec : {M : Type 1} → statement M
-two-bytes-at-spec =
-    tie.close
-    (tie.spec byte-at-requires add-byte-at byte-at-requires-2 mul-result add-result returns)
+two-bytes-at-spec = tie.close (tie.spec byte-at-requires add-byte-at byte-at-requires-2 mul-result add-result returns)

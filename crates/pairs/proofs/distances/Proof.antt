@@ -2,7 +2,7 @@
 use native.Mathlib.Omega.{arith}
 use borrow.Author.Needs.{needs}
 use Rattle.monitor.proofs.Rows.{next-of-rows}
-use Rattle.pairs.proofs.Entries.{begins-differing, begun-fresh}
+use Rattle.pairs.proofs.Entries.{at-once-differing, entered-fresh}
 use Rattle.pairs.proofs.Rounds.{squared-same}
 use Rattle.pairs.proofs.distances.Statement.{statement}
 use Rattle.pairs.proofs.distances.Tie as tie
@@ -10,18 +10,19 @@ use Rattle.pairs.proofs.distances.Tie as tie
 blank-requires : tie.Need-blank-requires
 blank-requires c κs = search needs
 
-begin-requires : tie.Need-begin-requires
-begin-requires c κs = search needs
+enter-outputs-requires : tie.Need-enter-outputs-requires
+enter-outputs-requires c κs = search needs
 
 refine-requires : tie.Need-refine-requires
 refine-requires c κs =
     let pre = c .before .before .before .before .before .before .pre in
-    (pre .0, begun-fresh (omega (arith, pre .0 .states-most, pre .1)) (pre .1) (c .before .begin .ensures))
+    (pre .0, entered-fresh (omega (arith, pre .0 .states-most, pre .1)) (pre .1) (c .before .enter-outputs .ensures))
 
 returns : tie.Need-returns
 returns c =
     let pre = c .before .before .before .before .before .before .before .pre in
-    squared-same (next-of-rows (pre .0)) (begins-differing (omega (arith, pre .0 .states-most, pre .1)) (pre .1) (c .before .before .begin .ensures)) (c .refine .ensures .0)
+    squared-same (next-of-rows (pre .0)) (at-once-differing (omega (arith, pre .0 .states-most, pre .1)) (pre .1) (c .before .before .enter-outputs .ensures))
+    (c .refine .ensures .0)
 
 pub distances-spec : {M : Type 1} → statement M
-distances-spec = tie.close (tie.spec blank-requires begin-requires refine-requires returns)
+distances-spec = tie.close (tie.spec blank-requires enter-outputs-requires refine-requires returns)

@@ -35,7 +35,8 @@ returns c =
     let o = c .before .before .before .before .before .before .before .args in
     scan-finds (c .before .before .before .before .before .loop .inv)
     (leads-as (automatonOf (o .n) (o .k) (now (o .nexts))) (now (o .square)) (o .distance) (o .p) (o .q) _
-    (c .before .before .before .successor .ensures .0) (c .before .before .successor2 .ensures .0) (c .before .entry-at .ensures .0) (eq-eqb _ _ (c .if1 .taken)))
+    (c .before .before .before .successor .ensures .0) (c .before .before .successor2 .ensures .0) (c .before .entry-at .ensures .0)
+    (eq-eqb _ _ (c .if1 .taken)))
 
 add-a : tie.Need-add-a Inv-loop μ-loop
 add-a c = search needs
@@ -48,23 +49,12 @@ loop-again c =
     let o = c .before .before .before .before .before .before .before .args in
     scan-goes-on (c .before .before .before .before .before .loop .inv) (omega arith)
     (leads-as (automatonOf (o .n) (o .k) (now (o .nexts))) (now (o .square)) (o .distance) (o .p) (o .q) _
-    (c .before .before .before .successor .ensures .0) (c .before .before .successor2 .ensures .0) (c .before .entry-at .ensures .0) (ne-eqb _ _ (c .if1 .left)))
+    (c .before .before .before .successor .ensures .0) (c .before .before .successor2 .ensures .0) (c .before .entry-at .ensures .0)
+    (ne-eqb _ _ (c .if1 .left)))
 
 returns-2 : tie.Need-returns-2 Inv-loop μ-loop
 returns-2 c = scan-ends (c .before .loop .inv) (omega arith)
 
 pub nearer-by-spec : {M : Type 1} → statement M
 nearer-by-spec =
-    tie.close
-    (tie.spec
-    Inv-loop
-    μ-loop
-    loop-holds
-    successor-requires
-    successor-requires-2
-    entry-at-requires
-    returns
-    add-a
-    loop-less
-    loop-again
-    returns-2)
+    tie.close (tie.spec Inv-loop μ-loop loop-holds successor-requires successor-requires-2 entry-at-requires returns add-a loop-less loop-again returns-2)

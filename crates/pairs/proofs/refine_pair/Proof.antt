@@ -1,4 +1,5 @@
 -- `refine_pair` meets its contract.
+use mathlib.Core.Path.{refl}
 use borrow.Author.Needs.{needs}
 use borrow.Author.Tests.{eq-eqb, ne-eqb}
 use Rattle.pairs.proofs.refine_pair.Statement.{statement}
@@ -11,7 +12,7 @@ returns : tie.Need-returns
 returns c =
     let h = c .before .entry-at .ensures .0 in
     let e = ne-eqb _ _ (c .if1 .taken) in
-    (rw (← h, e), rw (← h, e))
+    (rw (← h, e), refl)
 
 leads-within-requires : tie.Need-leads-within-requires
 leads-within-requires c κs = search needs
@@ -36,16 +37,16 @@ returns-2 c =
     let h = c .before .before .before .before .entry-at .ensures .0 in
     let e = eq-eqb _ _ (c .before .before .before .if1 .left) in
     let l = c .before .leads-within .ensures in
-    (rw (← h, e, ← l, c .if2 .taken), rw (← h, e, ← l, c .if2 .taken))
+    (rw (← h, e, ← l, c .if2 .taken), refl)
 
 returns-3 : tie.Need-returns-3
 returns-3 c =
     let h = c .before .before .before .before .entry-at .ensures .0 in
     let e = eq-eqb _ _ (c .before .before .before .if1 .left) in
     let l = c .before .leads-within .ensures in
-    (rw (← h, e, ← l, c .if2 .left), rw (← h, e, ← l, c .if2 .left))
+    (rw (← h, e, ← l, c .if2 .left), refl)
 
 pub refine-pair-spec : {M : Type 1} → statement M
 refine-pair-spec =
-    tie.close
-    (tie.spec entry-at-requires returns leads-within-requires add-square mul-square add-square-2 mul-square-2 element-write-square returns-2 returns-3)
+    tie.close (tie.spec entry-at-requires returns leads-within-requires add-square mul-square add-square-2 mul-square-2 element-write-square returns-2
+    returns-3)

@@ -54,7 +54,13 @@ successor-requires-2 c κs =
 add-i : tie.Need-add-i Inv-loop μ-loop
 add-i c =
     let w = c .before .before .before .before .loop .inv in
-    omega (arith, w .room, c .before .before .before .loop-test .taken, walk-length w, c .before .before .before .before .before .before .before .before .good .1 .1 .1 .1 .1 .1 .0 .0)
+    omega (
+      arith,
+      w .room,
+      c .before .before .before .loop-test .taken,
+      walk-length w,
+      c .before .before .before .before .before .before .before .before .good .1 .1 .1 .1 .1 .1 .0 .0,
+    )
 
 loop-less : tie.Need-loop-less Inv-loop μ-loop
 loop-less c = search needs
@@ -76,20 +82,5 @@ returns c =
 
 pub write-apart-spec : {M : Type 1} → statement M
 write-apart-spec =
-    tie.close
-    (tie.spec
-    Inv-loop
-    μ-loop
-    entry-at-requires
-    loop-holds
-    sub-left
-    nearer-by-requires
-    cast-area
-    slice-write-area
-    successor-requires
-    successor-requires-2
-    add-i
-    loop-less
-    loop-again
-    same-length
-    returns)
+    tie.close (tie.spec Inv-loop μ-loop entry-at-requires loop-holds sub-left nearer-by-requires cast-area slice-write-area successor-requires
+    successor-requires-2 add-i loop-less loop-again same-length returns)

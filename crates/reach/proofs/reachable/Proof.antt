@@ -31,8 +31,11 @@ loop-holds : tie.Need-loop-holds Inv-loop μ-loop
 loop-holds c =
     let a = c .before .before .before .before .args in
     let pre = c .before .before .before .before .pre in
-    expand-first (automatonOf (a .n) (a .k) (a .nexts .now)) stateLimit (a .start) (member (c .before .before .empty .result)) (member (c .before .with .result)) (member (c .empty2 .result))
-    (lt-of-lt-of-le (pre .1) (pre .0 .states-most)) (c .before .before .empty .ensures) (c .before .with .ensures) (c .empty2 .ensures)
+    let none = c .before .before .empty in
+    let seen = c .before .with in
+    let done = c .empty2 in
+    expand-first (automatonOf (a .n) (a .k) (a .nexts .now)) stateLimit (a .start) (member (none .result)) (member (seen .result)) (member (done .result))
+    (lt-of-lt-of-le (pre .1) (pre .0 .states-most)) (none .ensures) (seen .ensures) (done .ensures)
 
 minus-requires : tie.Need-minus-requires Inv-loop μ-loop
 minus-requires c κs = search needs
@@ -44,10 +47,10 @@ returns : tie.Need-returns Inv-loop μ-loop
 returns c =
     let pre = c .before .before .before .before .before .before .before .before .pre in
     let left = c .before .before .minus in
-    record {
-      at = expand-last (c .before .before .before .loop .inv) stateLimit (pre .0 .states-most) (member (left .result)) (left .ensures) (c .before .lowest .result) (c .before .lowest .ensures)
-          (next-of-rows (pre .0)) (pre .1) (c .if1 .taken);
-    }
+    let low = c .before .lowest in
+    let all = expand-last (c .before .before .before .loop .inv) stateLimit (pre .0 .states-most) (member (left .result)) (left .ensures)
+    (low .result) (low .ensures) (next-of-rows (pre .0)) (pre .1) (c .if1 .taken) in
+    record { at = all }
 
 with-requires-2 : tie.Need-with-requires-2 Inv-loop μ-loop
 with-requires-2 c κs = search needs
@@ -63,18 +66,22 @@ loop-less c =
     let left = c .before .before .before .before .before .minus in
     let low = c .before .before .before .before .lowest in
     let done = c .before .before .with2 in
-    expand-less (c .before .before .before .before .before .before .loop .inv) stateLimit (c .before .before .before .before .before .before .before .before .before .before .before .pre .0 .states-most) (member (left .result)) (left .ensures) (low .result) (low .ensures)
-    (c .before .before .before .if1 .left) (member (done .result)) (done .ensures)
+    let small = c .before .before .before .before .before .before .before .before .before .before .before .pre .0 .states-most in
+    expand-less (c .before .before .before .before .before .before .loop .inv) stateLimit small (member (left .result)) (left .ensures)
+    (low .result) (low .ensures) (c .before .before .before .if1 .left) (member (done .result)) (done .ensures)
 
 loop-again : tie.Need-loop-again Inv-loop μ-loop
 loop-again c =
     let left = c .before .before .before .before .before .minus in
     let low = c .before .before .before .before .lowest in
     let done = c .before .before .with2 in
-    expand-turn (c .before .before .before .before .before .before .loop .inv) stateLimit (c .before .before .before .before .before .before .before .before .before .before .before .pre .0 .states-most) (member (left .result)) (left .ensures) (low .result) (low .ensures)
-    (c .before .before .before .if1 .left) (member (done .result)) (done .ensures) (member (c .before .successors .result)) (member (c .union .result)) (c .before .successors .ensures) (c .union .ensures)
+    let small = c .before .before .before .before .before .before .before .before .before .before .before .pre .0 .states-most in
+    let out = c .before .successors in
+    expand-turn (c .before .before .before .before .before .before .loop .inv) stateLimit small (member (left .result)) (left .ensures)
+    (low .result) (low .ensures) (c .before .before .before .if1 .left) (member (done .result)) (done .ensures)
+    (member (out .result)) (member (c .union .result)) (out .ensures) (c .union .ensures)
 
 pub reachable-spec : {M : Type 1} → statement M
 reachable-spec =
-    tie.close
-    (tie.spec Inv-loop μ-loop empty-requires with-requires empty-requires-2 loop-holds minus-requires lowest-requires returns with-requires-2 successors-requires union-requires loop-less loop-again)
+    tie.close (tie.spec Inv-loop μ-loop empty-requires with-requires empty-requires-2 loop-holds minus-requires lowest-requires returns with-requires-2
+    successors-requires union-requires loop-less loop-again)

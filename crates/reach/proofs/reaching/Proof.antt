@@ -35,19 +35,21 @@ returns : tie.Need-returns Inv-loop μ-loop
 returns c =
     let pre = c .before .before .before .before .before .before .pre in
     let wide = c .before .before .before .widen-all in
-    widen-last (c .before .before .before .before .loop .inv) stateLimit (pre .states-most) (member (wide .result)) (wide .ensures) (c .before .before .count .ensures) (c .before .count2 .ensures) (c .if1 .taken) (next-of-rows pre)
+    widen-last (c .before .before .before .before .loop .inv) stateLimit (pre .states-most) (member (wide .result)) (wide .ensures)
+    (c .before .before .count .ensures) (c .before .count2 .ensures) (c .if1 .taken) (next-of-rows pre)
 
 loop-less : tie.Need-loop-less Inv-loop μ-loop
 loop-less c =
     let wide = c .before .before .before .widen-all in
-    widen-less (c .before .before .before .before .loop .inv) stateLimit (c .before .before .before .before .before .before .pre .states-most) (member (wide .result)) (wide .ensures)
+    widen-less (c .before .before .before .before .loop .inv) stateLimit (c .before .before .before .before .before .before .pre .states-most)
+    (member (wide .result)) (wide .ensures)
     (c .before .before .count .ensures) (c .before .count2 .ensures) (c .if1 .left)
 
 loop-again : tie.Need-loop-again Inv-loop μ-loop
 loop-again c =
     let wide = c .before .before .before .widen-all in
-    widen-turn (c .before .before .before .before .loop .inv) stateLimit (c .before .before .before .before .before .before .pre .states-most) (member (wide .result)) (wide .ensures)
+    widen-turn (c .before .before .before .before .loop .inv) stateLimit (c .before .before .before .before .before .before .pre .states-most)
+    (member (wide .result)) (wide .ensures)
 
 pub reaching-spec : {M : Type 1} → statement M
-reaching-spec =
-    tie.close (tie.spec Inv-loop μ-loop loop-holds widen-all-requires count-requires count-requires-2 returns loop-less loop-again)
+reaching-spec = tie.close (tie.spec Inv-loop μ-loop loop-holds widen-all-requires count-requires count-requires-2 returns loop-less loop-again)

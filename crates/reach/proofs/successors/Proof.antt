@@ -55,5 +55,4 @@ returns c =
     λ p. at .inv .1 p ∙ any-end (leadsTo (automatonOf (a .n) (a .k) (a .nexts .now)) (a .q) p) (at .inv .0) (c .loop-test .left)
 
 pub successors-spec : {M : Type 1} → statement M
-successors-spec =
-    tie.close (tie.spec Inv-loop μ-loop empty-requires loop-holds successor-requires with-requires add-a loop-less loop-again returns)
+successors-spec = tie.close (tie.spec Inv-loop μ-loop empty-requires loop-holds successor-requires with-requires add-a loop-less loop-again returns)

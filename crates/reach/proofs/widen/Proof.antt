@@ -26,7 +26,8 @@ returns-2 : tie.Need-returns-2
 returns-2 c =
     let a = c .before .before .before .before .before .before .args in
     let pre = c .before .before .before .before .before .before .pre in
-    widen-new (automatonOf (a .n) (a .k) (a .nexts .now)) (member (a .set)) (a .q) stateLimit (member (c .with .result)) (lt-of-lt-of-le (pre .1) (pre .0 .states-most))
+    widen-new (automatonOf (a .n) (a .k) (a .nexts .now)) (member (a .set)) (a .q) stateLimit (member (c .with .result))
+    (lt-of-lt-of-le (pre .1) (pre .0 .states-most))
     (c .before .before .enters .ensures) (c .before .if2 .taken) (c .with .ensures)
 
 returns-3 : tie.Need-returns-3

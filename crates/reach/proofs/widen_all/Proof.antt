@@ -34,7 +34,8 @@ loop-again c =
     let a = c .before .before .before .before .args in
     let at = c .before .before .loop in (
       search needs,
-      spread-turn (automatonOf (a .n) (a .k) (a .nexts .now)) (member (a .set)) (at .q) (member (at .wider)) (member (c .widen .result)) (at .inv .1) (c .widen .ensures),
+      spread-turn (automatonOf (a .n) (a .k) (a .nexts .now)) (member (a .set)) (at .q) (member (at .wider)) (member (c .widen .result)) (at .inv .1)
+          (c .widen .ensures),
     )
 
 returns : tie.Need-returns Inv-loop μ-loop

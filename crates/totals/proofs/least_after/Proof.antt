@@ -42,8 +42,11 @@ loop-again : tie.Need-loop-again Inv-loop μ-loop
 loop-again c =
     let a = c .before .before .before .before .before .before .args in
     let at = c .before .before .before .before .loop in
-    let after = ap (λ (x : ℕ). getD (a .totals .now) x 0) (c .before .before .successor .ensures .0) in
-    (search needs, least-turn (at .a) (totalAfter (automatonOf (a .n) (a .k) (a .nexts .now)) (a .totals .now) (a .p)) (at .inv .1) after (c .least-of .ensures))
+    let after = ap (λ (x : ℕ). getD (a .totals .now) x 0) (c .before .before .successor .ensures .0) in (
+      search needs,
+      least-turn (at .a) (totalAfter (automatonOf (a .n) (a .k) (a .nexts .now)) (a .totals .now) (a .p)) (at .inv .1) after
+          (c .least-of .ensures),
+    )
 
 returns : tie.Need-returns Inv-loop μ-loop
 returns c =
@@ -53,16 +56,5 @@ returns c =
 
 pub least-after-spec : {M : Type 1} → statement M
 least-after-spec =
-    tie.close
-    (tie.spec
-    Inv-loop
-    μ-loop
-    loop-holds
-    successor-requires
-    mul-least-of
-    element-copy-out-least-of
-    least-of-requires
-    add-a
-    loop-less
-    loop-again
+    tie.close (tie.spec Inv-loop μ-loop loop-holds successor-requires mul-least-of element-copy-out-least-of least-of-requires add-a loop-less loop-again
     returns)

@@ -34,14 +34,4 @@ returns-2 c =
     not-lowered (automatonOf (a .n) (a .k) (a .nexts .now)) (a .totals .now) (a .p) (c .before .before .least-after .ensures .0) (c .if1 .left)
 
 pub lower-spec : {M : Type 1} → statement M
-lower-spec =
-    tie.close
-    (tie.spec
-    least-after-requires
-    add-next
-    mul-if1
-    element-copy-out-if1
-    mul-totals
-    element-write-totals
-    returns
-    returns-2)
+lower-spec = tie.close (tie.spec least-after-requires add-next mul-if1 element-copy-out-if1 mul-totals element-write-totals returns returns-2)

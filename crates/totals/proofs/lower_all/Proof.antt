@@ -43,25 +43,16 @@ loop-again c =
     let g = automatonOf (a .n) (a .k) (a .nexts .now) in (
       search needs,
       omega (arith, lowered-most (lowers g (at .totals) (at .p)) (c .lower .ensures .0)),
-      lowering-goes-on g (next-of-rows rows) (rows .states-most) (at .p) (c .before .before .loop-test .taken) (at .inv .2) (c .lower .ensures .0) (c .lower .ensures .1),
+      lowering-goes-on g (next-of-rows rows) (rows .states-most) (at .p) (c .before .before .loop-test .taken) (at .inv .2) (c .lower .ensures .0)
+          (c .lower .ensures .1),
     )
 
 returns : tie.Need-returns Inv-loop μ-loop
 returns c =
     let a = c .before .before .before .args in
     let at = c .before .loop in
-    subst (λ (p : ℕ). Lowering (automatonOf (a .n) (a .k) (a .nexts .now)) p (at .changed) (a .totals .now) (at .totals)) (le-antisymm (at .inv .0) (c .loop-test .left)) (at .inv .2)
+    subst (λ (p : ℕ). Lowering (automatonOf (a .n) (a .k) (a .nexts .now)) p (at .changed) (a .totals .now) (at .totals))
+    (le-antisymm (at .inv .0) (c .loop-test .left)) (at .inv .2)
 
 pub lower-all-spec : {M : Type 1} → statement M
-lower-all-spec =
-    tie.close
-    (tie.spec
-    Inv-loop
-    μ-loop
-    loop-holds
-    lower-requires
-    add-changed
-    add-p
-    loop-less
-    loop-again
-    returns)
+lower-all-spec = tie.close (tie.spec Inv-loop μ-loop loop-holds lower-requires add-changed add-p loop-less loop-again returns)

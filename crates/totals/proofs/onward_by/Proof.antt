@@ -2,9 +2,10 @@
 use Prim.Native.Nat.{_-_}
 use native.Mathlib.Omega.{arith}
 use borrow.Author.Needs.{needs}
+use borrow.Author.Tests.{eq-eqb, ne-eqb}
 use Rattle.theory.proofs.Scan.{Passed, scan-begins, scan-goes-on, scan-finds, scan-ends}
 use Rattle.monitor.specs.Format.{automatonOf}
-use Rattle.totals.proofs.Walk.{leadsToTotal, leads-there, leads-elsewhere}
+use Rattle.totals.proofs.Walk.{leadsToTotal, leads-as}
 use Rattle.totals.proofs.onward_by.Statement.{statement}
 use Rattle.totals.proofs.onward_by.Tie as tie
 
@@ -31,7 +32,8 @@ returns c =
     let a = c .before .before .before .before .before .before .args in
     let at = c .before .before .before .before .loop in
     scan-finds (at .inv)
-    (leads-there (automatonOf (a .n) (a .k) (a .nexts .now)) (a .totals .now) (a .total) (a .p) (at .a) (c .before .before .successor .ensures .0) (c .if1 .taken))
+    (leads-as (automatonOf (a .n) (a .k) (a .nexts .now)) (a .totals .now) (a .total) (a .p) (at .a) (c .before .before .successor .ensures .0)
+    (eq-eqb _ _ (c .if1 .taken)))
 
 add-a : tie.Need-add-a Inv-loop μ-loop
 add-a c = search needs
@@ -44,23 +46,11 @@ loop-again c =
     let a = c .before .before .before .before .before .before .args in
     let at = c .before .before .before .before .loop in
     scan-goes-on (at .inv) (omega (arith, c .before .before .before .loop-test .taken))
-    (leads-elsewhere (automatonOf (a .n) (a .k) (a .nexts .now)) (a .totals .now) (a .total) (a .p) (at .a) (c .before .before .successor .ensures .0) (c .if1 .left))
+    (leads-as (automatonOf (a .n) (a .k) (a .nexts .now)) (a .totals .now) (a .total) (a .p) (at .a) (c .before .before .successor .ensures .0)
+    (ne-eqb _ _ (c .if1 .left)))
 
 returns-2 : tie.Need-returns-2 Inv-loop μ-loop
 returns-2 c = scan-ends (c .before .loop .inv) (omega (arith, c .loop-test .left))
 
 pub onward-by-spec : {M : Type 1} → statement M
-onward-by-spec =
-    tie.close
-    (tie.spec
-    Inv-loop
-    μ-loop
-    loop-holds
-    successor-requires
-    mul-if1
-    element-copy-out-if1
-    returns
-    add-a
-    loop-less
-    loop-again
-    returns-2)
+onward-by-spec = tie.close (tie.spec Inv-loop μ-loop loop-holds successor-requires mul-if1 element-copy-out-if1 returns add-a loop-less loop-again returns-2)

@@ -29,5 +29,4 @@ returns : tie.Need-returns Inv-loop μ-loop
 returns c = rounds-end (c .before .before .before .loop .inv) (c .before .lower-all .ensures) (c .if1 .left)
 
 pub relax-spec : {M : Type 1} → statement M
-relax-spec =
-    tie.close (tie.spec Inv-loop μ-loop loop-holds lower-all-requires loop-less loop-again returns)
+relax-spec = tie.close (tie.spec Inv-loop μ-loop loop-holds lower-all-requires loop-less loop-again returns)

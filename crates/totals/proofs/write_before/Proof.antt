@@ -58,12 +58,18 @@ add-i : tie.Need-add-i Inv-loop μ-loop
 add-i c = omega (arith, c .before .before .before .before .loop .inv .total, c .before .before .before .before .before .before .before .before .pre .3)
 
 loop-less : tie.Need-loop-less Inv-loop μ-loop
-loop-less c = omega (arith, walk-left (c .before .before .before .before .loop .inv) (c .before .before .before .before .before .before .before .before .pre .1) (c .before .before .if1 .taken))
+loop-less c =
+    omega (
+      arith,
+      walk-left (c .before .before .before .before .loop .inv) (c .before .before .before .before .before .before .before .before .pre .1)
+          (c .before .before .if1 .taken),
+    )
 
 loop-again : tie.Need-loop-again Inv-loop μ-loop
 loop-again c =
     let pre = c .before .before .before .before .before .before .before .before .pre in
-    walk-goes-on (c .before .before .before .before .loop .inv) (pre .1) (c .before .before .if1 .taken) (c .before .onward-by .ensures) (next-of-rows (pre .0)) (c .successor .ensures .0)
+    walk-goes-on (c .before .before .before .before .loop .inv) (pre .1) (c .before .before .if1 .taken) (c .before .onward-by .ensures) (next-of-rows (pre .0))
+    (c .successor .ensures .0)
 
 same-length : tie.Need-same-length Inv-loop μ-loop
 same-length c = c .before .before .loop .inv .size
@@ -76,22 +82,5 @@ returns c =
 
 pub write-before-spec : {M : Type 1} → statement M
 write-before-spec =
-    tie.close
-    (tie.spec
-    Inv-loop
-    μ-loop
-    mul-left
-    element-copy-out-left
-    loop-holds
-    mul-if1
-    element-copy-out-if1
-    sub-left
-    onward-by-requires
-    cast-area
-    slice-write-area
-    successor-requires
-    add-i
-    loop-less
-    loop-again
-    same-length
-    returns)
+    tie.close (tie.spec Inv-loop μ-loop mul-left element-copy-out-left loop-holds mul-if1 element-copy-out-if1 sub-left onward-by-requires cast-area
+    slice-write-area successor-requires add-i loop-less loop-again same-length returns)

@@ -1,8 +1,8 @@
--- `begin_pair` meets its contract.
+-- `enter_pair` meets its contract.
 use borrow.Author.Needs.{needs}
 use borrow.Author.Tests.{eq-eqb, ne-eqb}
-use Rattle.pairs.proofs.begin_pair.Statement.{statement}
-use Rattle.pairs.proofs.begin_pair.Tie as tie
+use Rattle.pairs.proofs.enter_pair.Statement.{statement}
+use Rattle.pairs.proofs.enter_pair.Tie as tie
 
 shared-slice-read-if1 : tie.Need-shared-slice-read-if1
 shared-slice-read-if1 c = search needs
@@ -28,7 +28,5 @@ element-write-square c = search needs
 returns-2 : tie.Need-returns-2
 returns-2 c = rw (ne-eqb _ _ (c .if1 .left))
 
-pub begin-pair-spec : {M : Type 1} → statement M
-begin-pair-spec =
-    tie.close
-    (tie.spec shared-slice-read-if1 shared-slice-read-if1-2 returns mul-square add-square mul-square-2 element-write-square returns-2)
+pub enter-pair-spec : {M : Type 1} → statement M
+enter-pair-spec = tie.close (tie.spec shared-slice-read-if1 shared-slice-read-if1-2 returns mul-square add-square mul-square-2 element-write-square returns-2)
