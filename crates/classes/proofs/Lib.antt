@@ -1,4 +1,3 @@
 pub mod Marks
 pub mod Tables
 pub mod Entry
-pub mod Published

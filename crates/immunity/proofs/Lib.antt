@@ -5,4 +5,3 @@ pub mod Room
 pub mod Tables
 pub mod Column
 pub mod Entry
-pub mod DemandThree

@@ -1,10 +1,12 @@
 -- Asking two lists of questions one after the other, and what an answer does to the area lent.
-use mathlib.Core.Path.{_≡_, refl, ap}
+use mathlib.Core.Path.{_≡_, refl, ap, _∙_}
 use mathlib.Core.Bool.{Bool, true, false, cond}
 use mathlib.Core.List.{List, [], _∷_, _++_}
+use mathlib.Core.Logic.{inl, inr, ⊎-elim}
 use Prim.Native.Nat.{ℕ}
 use lib.ListN.{length, drop}
 use native.Mathlib.Omega.{arith}
+use Rattle.theory.specs.Lists.{In}
 use Rattle.theory.specs.Answer.{Question, Answer, refused, answered, asks, written}
 
 never : {number place : ℕ} {values : List ℕ} → refused number place ≡ answered values → ⊥
@@ -72,3 +74,36 @@ untouched bytes area e = rw e
 
 pub written-over : {a : Answer} {values : List ℕ} (bytes area : List ℕ) → a ≡ answered values → bytes ++ drop (length bytes) area ≡ written a bytes area
 written-over bytes area e = rw e
+
+-- ---- all yes, or the first no
+
+pub all-answered : (qs : List Question) (values : List ℕ) → ((q : Question) → In q qs → q .yes ≡ true) → asks qs values ≡ answered values
+all-answered [] values all = refl
+all-answered (q ∷ qs) values all = rw (all q (inl refl)) (all-answered qs values (λ p i. all p (inr i)))
+
+pub answered-all : (qs : List Question) (values : List ℕ) → asks qs values ≡ answered values → (q : Question) → In q qs → q .yes ≡ true
+answered-all [] values e q i = absurd i
+answered-all (p ∷ qs) values e q i =
+    let y = asks-yes p qs values e in
+    ⊎-elim (λ (h : q ≡ p). rw h (y .0)) (λ j. answered-all qs values (y .1) q j) i
+
+pub no-refused : (before : List Question) (q : Question) (after : List Question) (values : List ℕ) → ((p : Question) → In p before → p .yes ≡ true) → q .yes ≡ false
+    → asks (before ++ (q ∷ after)) values ≡ refused (q .number) (q .place)
+no-refused before q after values all e = asks-passed before (q ∷ after) values values (all-answered before values all) ∙ rw e
+
+-- some questions answered yes, and then one answered no with this number and place
+abbrev pub Stops : List Question → ℕ → ℕ → Type 0
+Stops qs number place =
+    (before : List Question) × (q : Question) × (after : List Question) × (qs ≡ before ++ (q ∷ after)) × ((p : Question) → In p before → p .yes ≡ true)
+    × (q .yes ≡ false) × (q .number ≡ number) × (q .place ≡ place)
+
+pub refused-no : (qs : List Question) (values : List ℕ) {number place : ℕ} → asks qs values ≡ refused number place → Stops qs number place
+refused-no [] values e = absurd (let z : _≡_ {A = ℕ} 0 1 = cc in omega arith)
+refused-no (q ∷ qs) values {number} {place} e = go (q .yes) refl e (refused-no qs values)
+  where
+    go : (b : Bool) → q .yes ≡ b → cond b (asks qs values) (refused (q .number) (q .place)) ≡ refused number place
+        → (asks qs values ≡ refused number place → Stops qs number place) → Stops (q ∷ qs) number place
+    go true p h rest =
+        let (before, x, after, i, all, f, n, l) = rest h in
+        (q ∷ before, x, after, ap (λ (r : List Question). q ∷ r) i, (λ y. ⊎-elim (λ (s : y ≡ q). rw s p) (all y)), f, n, l)
+    go false p h rest = ([], q, qs, refl, (λ y i. absurd i), p, cc, cc)
