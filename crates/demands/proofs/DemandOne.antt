@@ -17,7 +17,7 @@ use Rattle.collection.specs.Contents.{countOf, collectionQuestions, collectionA
 use Rattle.classes.specs.Classify.{classList, classifyFigures, classifyAnswer}
 use Rattle.immunity.specs.Findings.{tableFigures, faultAnswer, faultTrace}
 use Rattle.lines.specs.Line.{entryLine, lineAnswer}
-use Rattle.demands.specs.DemandOne.{FirstNo, Judged, Lent, DemandOne}
+use Rattle.demands.specs.DemandOne.{Judged, Lent, DemandOne}
 
 asks-judged : (qs : List Question) (values : List ℕ) → Judged qs values (asks qs values)
 asks-judged qs values = record {
@@ -30,7 +30,8 @@ asks-judged qs values = record {
 }
 
 -- the last question asks for room
-asks-lent : (front : List Question) (values bytes area : List ℕ) (size : ℕ) → size ≡ length bytes → Lent (asks (front ++ (question13 size (length area) ∷ [])) values) bytes area
+asks-lent : (front : List Question) (values bytes area : List ℕ) (size : ℕ) → size ≡ length bytes
+    → Lent (asks (front ++ (question13 size (length area) ∷ [])) values) bytes area
 asks-lent front values bytes area size same = record { untouched = λ number place e. sym (untouched bytes area e); short = go (asks qs values) refl }
   where
     qs : List Question
@@ -40,7 +41,8 @@ asks-lent front values bytes area size same = record { untouched = λ number pla
     go (refused number place) e l = (number, place, refl)
     go (answered given) e l =
         let q = question13 size (length area) in
-        let fits = leb-true size (length area) (answered-all qs values (e ∙ ap answered (sym (asks-values qs values e))) q (in-right q front (q ∷ []) (inl refl))) in
+        let all = answered-all qs values (e ∙ ap answered (sym (asks-values qs values e))) in
+        let fits = leb-true size (length area) (all q (in-right q front (q ∷ []) (inl refl))) in
         absurd (omega arith)
 
 pub demand-one : (limit : ℕ) (body file area : List ℕ) → DemandOne limit body file area

@@ -2,7 +2,7 @@
 use mathlib.Core.Path.{_≡_, refl, sym, ap, _∙_, subst}
 use mathlib.Core.Bool.{true, _||_}
 use mathlib.Core.List.{List, [], _++_, append-nil}
-use mathlib.Core.Logic.{_⊎_, ⊎-elim}
+use mathlib.Core.Logic.{_↔_, _⊎_, ⊎-elim}
 use mathlib.Core.Option.{Option, none, some}
 use Prim.Native.Nat.{ℕ, _≤_, _<_, zero-le}
 use native.Mathlib.Omega.{arith}
@@ -11,10 +11,10 @@ use lib.ListN.{length, getD}
 use borrow.Author.Tests.{le-leb}
 use Rattle.theory.specs.Below.{values}
 use Rattle.theory.specs.Answer.{answered}
-use Rattle.theory.specs.Monitor.{Monitor, WellFormed, class, reading}
+use Rattle.theory.specs.Monitor.{Monitor, WellFormed, Class, class, reading}
 use Rattle.theory.specs.Faults.{allFaults}
 use Rattle.theory.specs.Series.{Series}
-use Rattle.theory.specs.Distance.{Harmed, Distance}
+use Rattle.theory.specs.Distance.{Distance}
 use Rattle.theory.specs.Computed.{extentOf, firstWitness}
 use Rattle.theory.proofs.Answer.{asks-values}
 use Rattle.theory.proofs.Values.{getD-filled}
@@ -25,14 +25,14 @@ use Rattle.monitor.specs.Questions.{judgeAnswer, tableQuestions}
 use Rattle.monitor.proofs.Accepted.{accepted-table, accepted-asks}
 use Rattle.classes.specs.Classify.{classList, classifyQuestions, classifyFigures, classifyAnswer}
 use Rattle.immunity.specs.Findings.{witnessFigures, witnessTrace, faultQuestions, tableFigures, faultAnswer, faultTrace}
-use Rattle.demands.specs.DemandTwo.{Published, Askable, Found, immune, vulnerable, DemandTwo}
+use Rattle.demands.specs.DemandTwo.{Published, Askable, Unharmed, Found, immune, vulnerable, DemandTwo}
 
 byte-class : (m : Monitor) (q : ℕ) → q < m .automaton .states → getD (classList m) q 0 ≡ class m q
 byte-class m q l = ap (λ (v : List ℕ). getD v q 0) (sym (append-nil (classList m))) ∙ getD-filled (class m) [] (m .automaton .states) q l
 
 -- a finding without values says that no trace is harmed
-no-values : {m : Monitor} {d set : ℕ} {given bytes : List ℕ} → Found m d set given bytes → given ≡ [] → (w : List ℕ) → ¬ (Harmed m d set w)
-no-values (immune none-harmed) e = none-harmed
+no-values : {m : Monitor} {d set : ℕ} {given bytes : List ℕ} → Found m d set given bytes → given ≡ [] → Unharmed m d set
+no-values (immune safe) e = safe
 no-values (vulnerable s first shortest) e = absurd (let z : _≡_ {A = ℕ} 0 1 = cc in omega arith)
 
 known : (d : ℕ) → (d ≡ 3) ⊎ (d ≡ 6) → (eqb d 3 || eqb d 6) ≡ true
@@ -48,7 +48,7 @@ module _ (limit : ℕ) (b : List ℕ) (e : judgeAnswer limit b ≡ answered []) 
   pub published : (room : ℕ) → Published limit b room
   unfolding classifyAnswer
   published room = record {
-    classes = λ q l c. rw (byte-class m q l) (class-exact w q l c);
+    classes = λ q l c. subst (λ (x : ℕ). Class m q c ↔ (c ≡ x)) (sym (byte-class m q l)) (class-exact w q l c);
     table = monitorability-exact w;
     inside = reached-in w;
     reaches = reached-exact w;
@@ -63,8 +63,8 @@ module _ (limit : ℕ) (b : List ℕ) (e : judgeAnswer limit b ≡ answered []) 
     pub tells : (room : ℕ) (given : List ℕ) → faultAnswer limit b set d room ≡ answered given → Found m d set given (faultTrace b set d)
     unfolding faultAnswer
     tells room given a =
-        subst (λ (v : List ℕ). Found m d set v (faultTrace b set d))
-        (asks-values (tableQuestions limit b ++ faultQuestions set d (firstWitness m d set) room) (tableFigures m d set) a) (by-outcome (firstWitness m d set) refl)
+        let same = asks-values (tableQuestions limit b ++ faultQuestions set d (firstWitness m d set) room) (tableFigures m d set) a in
+        subst (λ (v : List ℕ). Found m d set v (faultTrace b set d)) same (by-outcome (firstWitness m d set) refl)
 
     module _ (a : Askable set d) (room : ℕ) where
       pub given : length (faultTrace b set d) ≤ room → faultAnswer limit b set d room ≡ answered (tableFigures m d set)
@@ -73,7 +73,7 @@ module _ (limit : ℕ) (b : List ℕ) (e : judgeAnswer limit b ≡ answered []) 
           accepted-asks limit b (faultQuestions set d (firstWitness m d set) room) (tableFigures m d set) e
           ∙ rw (le-leb set allFaults (a .set-most), known d (a .reading-known), le-leb (length (faultTrace b set d)) room l)
 
-      says-immune : ((x : List ℕ) → ¬ (Harmed m d set x)) → faultAnswer limit b set d room ≡ answered []
+      says-immune : Unharmed m d set → faultAnswer limit b set d room ≡ answered []
       says-immune safe = go (firstWitness m d set) refl
         where
           go : (o : Option Series) → firstWitness m d set ≡ o → faultAnswer limit b set d room ≡ answered []

@@ -20,10 +20,10 @@ pub record DemandThree (limit : ℕ) (b : List ℕ) (F G d : ℕ) : Type 0 where
   -- the distance is the length of the shortest harmed sent trace, or missing; there is no other
   pub shortest : Distance (monitorOf b) d F (distance (monitorOf b) d F)
   pub only : (e : Extent) → Distance (monitorOf b) d F e → e ≡ distance (monitorOf b) d F
-  -- an answer is given, where the area holds the witness
+  -- the fault question is answered where the area holds the witness
   pub given : (room : ℕ) → Askable F d → length (faultTrace b F d) ≤ room
       → (values : List ℕ) × (faultAnswer limit b F d room ≡ answered values)
-  -- it tells the distance, with the first witness; there is no other first
+  -- an answer, with an area of any length, tells it, with the first witness; there is no other first
   pub answers : (room : ℕ) (values : List ℕ) → faultAnswer limit b F d room ≡ answered values
       → Found (monitorOf b) d F values (faultTrace b F d)
   pub first : (s t : Series) → FirstWitness (monitorOf b) d F s → FirstWitness (monitorOf b) d F t → s ≡ t

@@ -1,5 +1,5 @@
--- Demand 2: classes and monitorability are the published ones; immune is said exactly if no trace is harmed, and else
--- the first witness is told, a shortest one.
+-- Demand 2: classes and monitorability are the published ones; immune is said exactly if no trace is harmed, else the
+-- first witness is told, a shortest one.
 use mathlib.Core.Path.{_≡_}
 use mathlib.Core.Bool.{true}
 use mathlib.Core.List.{List, [], _∷_}
@@ -11,16 +11,17 @@ use Rattle.theory.specs.Automaton.{Reaches}
 use Rattle.theory.specs.Monitor.{Monitor, Class, Monitorability, monitorability, reached, statesReached, reading}
 use Rattle.theory.specs.Faults.{allFaults}
 use Rattle.theory.specs.Series.{Series, sentTrace}
-use Rattle.theory.specs.Extent.{number, missing}
+use Rattle.theory.specs.Extent.{number}
 use Rattle.theory.specs.Distance.{Harmed, Distance, FirstWitness}
 use Rattle.monitor.specs.Format.{statesOf, monitorOf}
 use Rattle.classes.specs.Classify.{classList, classifyAnswer}
 use Rattle.immunity.specs.Findings.{seriesFigures, faultAnswer, faultTrace}
 
--- the numbers that the classes are answered with are those of the published definitions
+-- what is answered of the states, for an area of `room` bytes, is what the published definitions say
 pub record Published (limit : ℕ) (b : List ℕ) (room : ℕ) : Type 0 where
-  -- each state has exactly one class of definition 8, the one written for it
-  pub classes : (q : ℕ) → q < statesOf b → (c : ℕ) → Class (monitorOf b) q c ↔ (c ≡ getD (classList (monitorOf b)) q 0)
+  -- each state has exactly one class of definition 8: the byte written for it
+  pub classes : (q : ℕ) → q < statesOf b
+      → (c : ℕ) → Class (monitorOf b) q c ↔ (c ≡ getD (classList (monitorOf b)) q 0)
   -- the table has exactly one monitorability of definition 10 and lemma 3
   pub table : (r : ℕ) → Monitorability (monitorOf b) r ↔ (r ≡ monitorability (monitorOf b))
   -- the states reached are those that some trace leads to, all of them states
@@ -35,10 +36,14 @@ pub record Askable (set d : ℕ) : Type 0 where
   pub set-most : set ≤ allFaults
   pub reading-known : (d ≡ 3) ⊎ (d ≡ 6)
 
--- what a finding that is not a refusal says by its values and the bytes written: immune, and no trace is harmed;
--- or the figures and the sent trace of the first witness, and that no harmed trace is shorter
+-- no trace is harmed
+abbrev pub Unharmed : Monitor → ℕ → ℕ → Type 0
+Unharmed m d set = (w : List ℕ) → ¬ (Harmed m d set w)
+
+-- what the values of an answer and the bytes written with it say: immune, and no trace is harmed;
+-- or the figures and the sent trace of the first witness, and no harmed trace is shorter
 pub data Found (m : Monitor) (d set : ℕ) : List ℕ → List ℕ → Type 0 where
-  immune : Distance m d set missing → Found m d set [] []
+  immune : Unharmed m d set → Found m d set [] []
   vulnerable : (s : Series) → FirstWitness m d set s → Distance m d set (number (length (sentTrace s)))
       → Found m d set (seriesFigures (reading m d) (m .automaton) (m .start) s) (sentTrace s)
 
@@ -47,9 +52,8 @@ pub record DemandTwo (limit : ℕ) (b : List ℕ) (set d room : ℕ) : Type 0 wh
   -- classes, monitorability and the states reached
   pub published : Published limit b room
   -- immune is said exactly if no trace is harmed
-  pub immune-exactly : Askable set d
-      → (faultAnswer limit b set d room ≡ answered []) ↔ ((w : List ℕ) → ¬ (Harmed (monitorOf b) d set w))
-  -- where the area holds it, the first witness is told
+  pub immune-exactly : Askable set d → (faultAnswer limit b set d room ≡ answered []) ↔ Unharmed (monitorOf b) d set
+  -- else, where the area holds it, the first witness is told, a shortest one
   pub witness : Askable set d → length (faultTrace b set d) ≤ room
       → (values : List ℕ) × (faultAnswer limit b set d room ≡ answered values)
       × Found (monitorOf b) d set values (faultTrace b set d)

@@ -87,8 +87,8 @@ answered-all (p ∷ qs) values e q i =
     let y = asks-yes p qs values e in
     ⊎-elim (λ (h : q ≡ p). rw h (y .0)) (λ j. answered-all qs values (y .1) q j) i
 
-pub no-refused : (before : List Question) (q : Question) (after : List Question) (values : List ℕ) → ((p : Question) → In p before → p .yes ≡ true) → q .yes ≡ false
-    → asks (before ++ (q ∷ after)) values ≡ refused (q .number) (q .place)
+pub no-refused : (before : List Question) (q : Question) (after : List Question) (values : List ℕ)
+    → ((p : Question) → In p before → p .yes ≡ true) → q .yes ≡ false → asks (before ++ (q ∷ after)) values ≡ refused (q .number) (q .place)
 no-refused before q after values all e = asks-passed before (q ∷ after) values values (all-answered before values all) ∙ rw e
 
 -- some questions answered yes, and then one answered no with this number and place
