@@ -1,7 +1,8 @@
 -- Demand 1, proved of every body, every collection file and every area.
 use mathlib.Core.Path.{_≡_, refl, sym, ap, _∙_}
+use mathlib.Core.Bool.{Bool, true, false, cond}
 use mathlib.Core.List.{List, [], _∷_, _++_}
-use mathlib.Core.Logic.{inl}
+use mathlib.Core.Logic.{inl, ⊎-elim}
 use Prim.Native.Nat.{ℕ, _<_}
 use native.Mathlib.Omega.{arith}
 use lib.ListN.{length}
@@ -9,7 +10,7 @@ use borrow.Author.Tests.{leb-true}
 use Rattle.theory.specs.Answer.{Question, Answer, refused, answered, asks}
 use Rattle.theory.specs.Monitor.{class}
 use Rattle.theory.proofs.Lists.{in-right}
-use Rattle.theory.proofs.Answer.{asks-values, untouched, all-answered, answered-all, no-refused, refused-no}
+use Rattle.theory.proofs.Answer.{asks-values, untouched, all-answered, answered-all, no-refused}
 use Rattle.theory.proofs.Values.{length-values}
 use Rattle.monitor.specs.Format.{statesOf, monitorOf}
 use Rattle.monitor.specs.Questions.{tableQuestions, judgeAnswer, question9, question10, question13}
@@ -17,14 +18,43 @@ use Rattle.collection.specs.Contents.{countOf, collectionQuestions, collectionA
 use Rattle.classes.specs.Classify.{classList, classifyFigures, classifyAnswer}
 use Rattle.immunity.specs.Findings.{tableFigures, faultAnswer, faultTrace}
 use Rattle.lines.specs.Line.{entryLine, lineAnswer}
-use Rattle.demands.specs.DemandOne.{Judged, Lent, DemandOne}
+use Rattle.demands.specs.DemandOne.{FirstNo, Judged, Lent, DemandOne}
+
+-- a refusal is the first no
+first-no : (qs : List Question) (values : List ℕ) {number place : ℕ} → asks qs values ≡ refused number place → FirstNo qs number place
+first-no [] values e = absurd (let z : _≡_ {A = ℕ} 0 1 = cc in omega arith)
+first-no (q ∷ qs) values {number} {place} e = go (q .yes) refl e (first-no qs values)
+  where
+    go : (b : Bool) → q .yes ≡ b → cond b (asks qs values) (refused (q .number) (q .place)) ≡ refused number place
+        → (asks qs values ≡ refused number place → FirstNo qs number place) → FirstNo (q ∷ qs) number place
+    go true p h rest =
+        let f = rest h in
+        record {
+          before = q ∷ f .before;
+          asked = f .asked;
+          after = f .after;
+          in-order = ap (λ (r : List Question). q ∷ r) (f .in-order);
+          before-yes = λ x. ⊎-elim (λ (s : x ≡ q). rw s p) (f .before-yes x);
+          asked-no = f .asked-no;
+          its-number = f .its-number;
+          its-place = f .its-place;
+        }
+    go false p h rest = record {
+      before = [];
+      asked = q;
+      after = qs;
+      in-order = refl;
+      before-yes = λ x i. absurd i;
+      asked-no = p;
+      its-number = cc;
+      its-place = cc;
+    }
 
 asks-judged : (qs : List Question) (values : List ℕ) → Judged qs values (asks qs values)
 asks-judged qs values = record {
   accepts = (answered-all qs values, all-answered qs values);
   refuses = λ number place. (
-    λ e. (let (before, q, after, i, all, f, n, p) = refused-no qs values e in
-        record { before = before; asked = q; after = after; in-order = i; before-yes = all; asked-no = f; its-number = n; its-place = p }),
+    first-no qs values,
     λ f. rw (f .in-order, ← f .its-number, ← f .its-place) (no-refused (f .before) (f .asked) (f .after) values (f .before-yes) (f .asked-no)),
   );
 }

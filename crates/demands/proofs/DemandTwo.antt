@@ -9,7 +9,6 @@ use native.Mathlib.Omega.{arith}
 use lib.Dec.{eqb}
 use lib.ListN.{length, getD}
 use borrow.Author.Tests.{le-leb}
-use Rattle.theory.specs.Below.{values}
 use Rattle.theory.specs.Answer.{answered}
 use Rattle.theory.specs.Monitor.{Monitor, WellFormed, Class, class, reading}
 use Rattle.theory.specs.Faults.{allFaults}
@@ -56,9 +55,12 @@ module _ (limit : ℕ) (b : List ℕ) (e : judgeAnswer limit b ≡ answered []) 
   }
 
   module _ (set d : ℕ) where
+    far : (o : Option Series) → firstWitness m d set ≡ o → Distance m d set (extentOf o)
+    far o h = subst (λ (x : Option Series). Distance m d set (extentOf x)) h (distance-exact limit m w d set)
+
     by-outcome : (o : Option Series) → firstWitness m d set ≡ o → Found m d set (witnessFigures (reading m d) (m .automaton) (m .start) o) (witnessTrace o)
-    by-outcome none h = immune (subst (Distance m d set) (ap extentOf h) (distance-exact limit m w d set))
-    by-outcome (some s) h = vulnerable s (witness-first limit m w d set s h) (subst (Distance m d set) (ap extentOf h) (distance-exact limit m w d set))
+    by-outcome none h = immune (far none h)
+    by-outcome (some s) h = vulnerable s (witness-first limit m w d set s h) (far (some s) h)
 
     pub tells : (room : ℕ) (given : List ℕ) → faultAnswer limit b set d room ≡ answered given → Found m d set given (faultTrace b set d)
     unfolding faultAnswer
@@ -78,7 +80,7 @@ module _ (limit : ℕ) (b : List ℕ) (e : judgeAnswer limit b ≡ answered []) 
         where
           go : (o : Option Series) → firstWitness m d set ≡ o → faultAnswer limit b set d room ≡ answered []
           go none h = given (rw h zero-le) ∙ rw h
-          go (some s) h = (let d′ = subst (Distance m d set) (ap extentOf h) (distance-exact limit m w d set) in absurd (safe (d′ .word) (d′ .has)))
+          go (some s) h = (let f = far (some s) h in absurd (safe (f .word) (f .has)))
 
 pub demand-two : (limit : ℕ) (b : List ℕ) → judgeAnswer limit b ≡ answered [] → (set d room : ℕ) → DemandTwo limit b set d room
 demand-two limit b e set d room = record {

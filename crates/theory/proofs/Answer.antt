@@ -75,7 +75,7 @@ untouched bytes area e = rw e
 pub written-over : {a : Answer} {values : List ℕ} (bytes area : List ℕ) → a ≡ answered values → bytes ++ drop (length bytes) area ≡ written a bytes area
 written-over bytes area e = rw e
 
--- ---- all yes, or the first no
+-- ---- all yes; some yes and then a no
 
 pub all-answered : (qs : List Question) (values : List ℕ) → ((q : Question) → In q qs → q .yes ≡ true) → asks qs values ≡ answered values
 all-answered [] values all = refl
@@ -90,20 +90,3 @@ answered-all (p ∷ qs) values e q i =
 pub no-refused : (before : List Question) (q : Question) (after : List Question) (values : List ℕ)
     → ((p : Question) → In p before → p .yes ≡ true) → q .yes ≡ false → asks (before ++ (q ∷ after)) values ≡ refused (q .number) (q .place)
 no-refused before q after values all e = asks-passed before (q ∷ after) values values (all-answered before values all) ∙ rw e
-
--- some questions answered yes, and then one answered no with this number and place
-abbrev pub Stops : List Question → ℕ → ℕ → Type 0
-Stops qs number place =
-    (before : List Question) × (q : Question) × (after : List Question) × (qs ≡ before ++ (q ∷ after)) × ((p : Question) → In p before → p .yes ≡ true)
-    × (q .yes ≡ false) × (q .number ≡ number) × (q .place ≡ place)
-
-pub refused-no : (qs : List Question) (values : List ℕ) {number place : ℕ} → asks qs values ≡ refused number place → Stops qs number place
-refused-no [] values e = absurd (let z : _≡_ {A = ℕ} 0 1 = cc in omega arith)
-refused-no (q ∷ qs) values {number} {place} e = go (q .yes) refl e (refused-no qs values)
-  where
-    go : (b : Bool) → q .yes ≡ b → cond b (asks qs values) (refused (q .number) (q .place)) ≡ refused number place
-        → (asks qs values ≡ refused number place → Stops qs number place) → Stops (q ∷ qs) number place
-    go true p h rest =
-        let (before, x, after, i, all, f, n, l) = rest h in
-        (q ∷ before, x, after, ap (λ (r : List Question). q ∷ r) i, (λ y. ⊎-elim (λ (s : y ≡ q). rw s p) (all y)), f, n, l)
-    go false p h rest = ([], q, qs, refl, (λ y i. absurd i), p, cc, cc)
