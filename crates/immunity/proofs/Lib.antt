@@ -4,4 +4,3 @@ pub mod Answers
 pub mod Room
 pub mod Tables
 pub mod Columns
-pub mod DemandThree

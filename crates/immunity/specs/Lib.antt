@@ -1,3 +1,2 @@
 pub mod Findings
 pub mod Search
-pub mod DemandThree

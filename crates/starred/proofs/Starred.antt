@@ -17,11 +17,11 @@ use Rattle.theory.specs.Distance.{Distance, differ, faultsOf}
 use Rattle.theory.specs.Computed.{horizon, firstWitness, extentOf}
 use Rattle.theory.proofs.Faults.{steps-good}
 use Rattle.theory.proofs.Witness.{strikes, found-early, found-never}
+use Rattle.theory.proofs.Exact.{class-exact, monitorability-exact}
 use Rattle.theory.proofs.Distance.{distance-exact, witness-first}
 use Rattle.monitor.specs.Format.{statesOf, monitorOf}
 use Rattle.monitor.specs.Questions.{judgeAnswer}
 use Rattle.monitor.proofs.Accepted.{accepted-table}
-use Rattle.classes.proofs.Published.{published}
 use Rattle.starred.specs.Starred.{Fact, monitorable, classed, immune, distant, witnessed, Accepted, UnderBoth, Witnessed, Holds, Hold, starred}
 
 -- ---- what is computed
@@ -93,8 +93,8 @@ module _ (m : Monitor) (w : WellFormed stateLimit m) (d set : ℕ) where
       }
 
 holds-by : (f : Fact) → Computed f → Holds f
-holds-by (monitorable b r) (e, h) = (e, published stateLimit b e .table r .1 h)
-holds-by (classed b q c) (e, l, h) = (e, published stateLimit b e .classes q l c .1 h)
+holds-by (monitorable b r) (e, h) = (e, monitorability-exact (accepted-table stateLimit b e .well-formed) r .1 h)
+holds-by (classed b q c) (e, l, h) = (e, class-exact (accepted-table stateLimit b e .well-formed) q l c .1 h)
 holds-by (immune b set) (e, h) =
     let w = accepted-table stateLimit b e .well-formed in
     (e, (immune-by (monitorOf b) w 3 set (h .0), immune-by (monitorOf b) w 6 set (h .1)))

@@ -2,9 +2,11 @@
 use mathlib.Core.Path.{_≡_, refl, sym, ap, _∙_}
 use mathlib.Core.Bool.{Bool, true, false, cond}
 use mathlib.Core.List.{List, [], _∷_, _++_, append-nil}
+use mathlib.Core.Logic.{inl, inr, ⊎-elim}
 use Prim.Native.Nat.{ℕ}
 use lib.ListN.{length, drop}
 use native.Mathlib.Omega.{arith}
+use Rattle.theory.specs.Lists.{In}
 use Rattle.theory.specs.Answer.{Question, Answer, refused, answered, asks, written}
 
 never : {number place : ℕ} {values : List ℕ} → refused number place ≡ answered values → ⊥
@@ -66,3 +68,19 @@ untouched bytes area e = rw e
 
 pub written-over : {a : Answer} {values : List ℕ} (bytes area : List ℕ) → a ≡ answered values → bytes ++ drop (length bytes) area ≡ written a bytes area
 written-over bytes area e = rw e
+
+-- ---- all yes; some yes and then a no
+
+pub all-answered : (qs : List Question) (values : List ℕ) → ((q : Question) → In q qs → q .yes ≡ true) → asks qs values ≡ answered values
+all-answered [] values all = refl
+all-answered (q ∷ qs) values all = rw (all q (inl refl)) (all-answered qs values (λ p i. all p (inr i)))
+
+pub answered-all : (qs : List Question) (values : List ℕ) → asks qs values ≡ answered values → (q : Question) → In q qs → q .yes ≡ true
+answered-all [] values e q i = absurd i
+answered-all (p ∷ qs) values e q i =
+    let y = asks-yes p qs values e in
+    ⊎-elim (λ (h : q ≡ p). rw h (y .0)) (λ j. answered-all qs values (y .1) q j) i
+
+pub no-refused : (before : List Question) (q : Question) (after : List Question) (values : List ℕ)
+    → ((p : Question) → In p before → p .yes ≡ true) → q .yes ≡ false → asks (before ++ (q ∷ after)) values ≡ refused (q .number) (q .place)
+no-refused before q after values all e = asks-passed before (q ∷ after) values values (all-answered before values all) ∙ rw e

@@ -1,0 +1,88 @@
+-- Demand 1, proved of every body, every collection file and every area.
+use mathlib.Core.Path.{_≡_, refl, sym, ap, _∙_}
+use mathlib.Core.Bool.{Bool, true, false, cond}
+use mathlib.Core.List.{List, [], _∷_, _++_}
+use mathlib.Core.Logic.{inl, ⊎-elim}
+use Prim.Native.Nat.{ℕ, _<_}
+use native.Mathlib.Omega.{arith}
+use lib.ListN.{length}
+use borrow.Author.Tests.{leb-true}
+use Rattle.theory.specs.Answer.{Question, Answer, refused, answered, asks}
+use Rattle.theory.specs.Monitor.{class}
+use Rattle.theory.proofs.Lists.{in-right}
+use Rattle.theory.proofs.Answer.{asks-values, untouched, all-answered, answered-all, no-refused}
+use Rattle.theory.proofs.Values.{length-values}
+use Rattle.monitor.specs.Format.{statesOf, monitorOf}
+use Rattle.monitor.specs.Questions.{tableQuestions, judgeAnswer, question9, question10, question13}
+use Rattle.collection.specs.Contents.{countOf, collectionQuestions, collectionAnswer}
+use Rattle.classes.specs.Classify.{classList, classifyFigures, classifyAnswer}
+use Rattle.immunity.specs.Findings.{tableFigures, faultAnswer, faultTrace}
+use Rattle.lines.specs.Line.{entryLine, lineAnswer}
+use Rattle.demands.specs.DemandOne.{FirstNo, Judged, Lent, DemandOne}
+
+-- a refusal is the first no
+first-no : (qs : List Question) (values : List ℕ) {number place : ℕ} → asks qs values ≡ refused number place → FirstNo qs number place
+first-no [] values e = absurd (let z : _≡_ {A = ℕ} 0 1 = cc in omega arith)
+first-no (q ∷ qs) values {number} {place} e = go (q .yes) refl e (first-no qs values)
+  where
+    go : (b : Bool) → q .yes ≡ b → cond b (asks qs values) (refused (q .number) (q .place)) ≡ refused number place
+        → (asks qs values ≡ refused number place → FirstNo qs number place) → FirstNo (q ∷ qs) number place
+    go true p h rest =
+        let f = rest h in
+        record {
+          before = q ∷ f .before;
+          asked = f .asked;
+          after = f .after;
+          in-order = ap (λ (r : List Question). q ∷ r) (f .in-order);
+          before-yes = λ x. ⊎-elim (λ (s : x ≡ q). rw s p) (f .before-yes x);
+          asked-no = f .asked-no;
+          its-number = f .its-number;
+          its-place = f .its-place;
+        }
+    go false p h rest = record {
+      before = [];
+      asked = q;
+      after = qs;
+      in-order = refl;
+      before-yes = λ x i. absurd i;
+      asked-no = p;
+      its-number = cc;
+      its-place = cc;
+    }
+
+asks-judged : (qs : List Question) (values : List ℕ) → Judged qs values (asks qs values)
+asks-judged qs values = record {
+  accepts = (answered-all qs values, all-answered qs values);
+  refuses = λ number place. (
+    first-no qs values,
+    λ f. rw (f .in-order, ← f .its-number, ← f .its-place) (no-refused (f .before) (f .asked) (f .after) values (f .before-yes) (f .asked-no)),
+  );
+}
+
+-- the last question asks for room
+asks-lent : (front : List Question) (values bytes area : List ℕ) (size : ℕ) → size ≡ length bytes
+    → Lent (asks (front ++ (question13 size (length area) ∷ [])) values) bytes area
+asks-lent front values bytes area size same = record { untouched = λ number place e. sym (untouched bytes area e); short = go (asks qs values) refl }
+  where
+    qs : List Question
+    qs = front ++ (question13 size (length area) ∷ [])
+
+    go : (a : Answer) → asks qs values ≡ a → length area < length bytes → (number : ℕ) × (place : ℕ) × (a ≡ refused number place)
+    go (refused number place) e l = (number, place, refl)
+    go (answered given) e l =
+        let q = question13 size (length area) in
+        let all = answered-all qs values (e ∙ ap answered (sym (asks-values qs values e))) in
+        let fits = leb-true size (length area) (all q (in-right q front (q ∷ []) (inl refl))) in
+        absurd (omega arith)
+
+pub demand-one : (limit : ℕ) (body file area : List ℕ) → DemandOne limit body file area
+unfolding judgeAnswer collectionAnswer classifyAnswer faultAnswer lineAnswer
+demand-one limit body file area =
+    let m = monitorOf body in
+    record {
+      table = asks-judged (tableQuestions limit body) [];
+      collection = asks-judged (collectionQuestions file) (countOf file ∷ []);
+      classes = asks-lent (tableQuestions limit body) (classifyFigures m) (classList m) area (statesOf body) (sym (length-values (statesOf body) (class m)));
+      faults = λ set d. asks-lent (tableQuestions limit body ++ (question9 set ∷ question10 d ∷ [])) (tableFigures m d set) (faultTrace body set d) area _ refl;
+      line = λ i. asks-lent [] (length (entryLine limit file i) ∷ []) (entryLine limit file i) area _ refl;
+    }

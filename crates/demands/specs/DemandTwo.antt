@@ -1,0 +1,59 @@
+-- Demand 2: classes and monitorability are the published ones; immune is said exactly if no trace is harmed, else the
+-- first witness is told, a shortest one.
+use mathlib.Core.Path.{_≡_}
+use mathlib.Core.Bool.{true}
+use mathlib.Core.List.{List, [], _∷_}
+use mathlib.Core.Logic.{_↔_, _⊎_}
+use Prim.Native.Nat.{ℕ, _≤_, _<_}
+use lib.ListN.{length, getD}
+use Rattle.theory.specs.Answer.{answered}
+use Rattle.theory.specs.Automaton.{Reaches}
+use Rattle.theory.specs.Monitor.{Monitor, Class, Monitorability, monitorability, reached, statesReached, reading}
+use Rattle.theory.specs.Faults.{allFaults}
+use Rattle.theory.specs.Series.{Series, sentTrace}
+use Rattle.theory.specs.Extent.{number}
+use Rattle.theory.specs.Distance.{Harmed, Distance, FirstWitness}
+use Rattle.monitor.specs.Format.{statesOf, monitorOf}
+use Rattle.classes.specs.Classify.{classList, classifyAnswer}
+use Rattle.immunity.specs.Findings.{seriesFigures, faultAnswer, faultTrace}
+
+-- what is answered of the states, for an area of `room` bytes, is what the published definitions say
+pub record Published (limit : ℕ) (b : List ℕ) (room : ℕ) : Type 0 where
+  -- each state has exactly one class of definition 8: the byte written for it
+  pub classes : (q : ℕ) → q < statesOf b
+      → (c : ℕ) → Class (monitorOf b) q c ↔ (c ≡ getD (classList (monitorOf b)) q 0)
+  -- the table has exactly one monitorability of definition 10 and lemma 3
+  pub table : (r : ℕ) → Monitorability (monitorOf b) r ↔ (r ≡ monitorability (monitorOf b))
+  -- the states reached are those that some trace leads to, all of them states
+  pub inside : (q : ℕ) → Reaches (monitorOf b .automaton) (monitorOf b .start) q → q < statesOf b
+  pub reaches : (q : ℕ) → (reached (monitorOf b) q ≡ true) ↔ Reaches (monitorOf b .automaton) (monitorOf b .start) q
+  -- where the area has a byte for each state, the answer is the monitorability and the number of states reached
+  pub answer : statesOf b ≤ room
+      → classifyAnswer limit b room ≡ answered (monitorability (monitorOf b) ∷ statesReached (monitorOf b) ∷ [])
+
+-- questions 9 and 10 are answered yes: the fault set is at most 15, and the reading is 3 or 6
+pub record Askable (set d : ℕ) : Type 0 where
+  pub set-most : set ≤ allFaults
+  pub reading-known : (d ≡ 3) ⊎ (d ≡ 6)
+
+-- no trace is harmed
+abbrev pub Unharmed : Monitor → ℕ → ℕ → Type 0
+Unharmed m d set = (w : List ℕ) → ¬ (Harmed m d set w)
+
+-- what the values of an answer and the bytes written with it say: immune, and no trace is harmed;
+-- or the figures and the sent trace of the first witness, and no harmed trace is shorter
+pub data Found (m : Monitor) (d set : ℕ) : List ℕ → List ℕ → Type 0 where
+  immune : Unharmed m d set → Found m d set [] []
+  vulnerable : (s : Series) → FirstWitness m d set s → Distance m d set (number (length (sentTrace s)))
+      → Found m d set (seriesFigures (reading m d) (m .automaton) (m .start) s) (sentTrace s)
+
+-- an accepted table, a fault set, a reading and an area of any length; `limit` is the greatest number of states
+pub record DemandTwo (limit : ℕ) (b : List ℕ) (set d room : ℕ) : Type 0 where
+  -- classes, monitorability and the states reached
+  pub published : Published limit b room
+  -- immune is said exactly if no trace is harmed
+  pub immune-exactly : Askable set d → (faultAnswer limit b set d room ≡ answered []) ↔ Unharmed (monitorOf b) d set
+  -- else, where the area holds it, the first witness is told, a shortest one
+  pub witness : Askable set d → length (faultTrace b set d) ≤ room
+      → (values : List ℕ) × (faultAnswer limit b set d room ≡ answered values)
+      × Found (monitorOf b) d set values (faultTrace b set d)

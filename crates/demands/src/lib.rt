@@ -1,0 +1,1 @@
+// The three demands of the mission: definitions and a theorem for each, and no code.
