@@ -6,9 +6,9 @@ use native.Mathlib.Omega.{arith}
 use lib.ListN.{length, length-take}
 use Rattle.theory.specs.Automaton.{Automaton, run}
 use Rattle.faults.specs.declared.Symbols.{Symbols}
-use Rattle.faults.specs.Steps.{symbolsOf, Inside}
+use Rattle.faults.specs.Steps.{traceOf, Inside}
 
-pub count-is : (s : Symbols) → s .count ≤ 2 → s .count ≡ length (symbolsOf s)
+pub count-is : (s : Symbols) → s .count ≤ 2 → s .count ≡ length (traceOf s)
 count-is s l = omega (arith, length-take (s .count) (s .first ∷ s .second ∷ []))
 
 -- a count that is neither 0 nor 1

@@ -2,3 +2,5 @@ pub mod AtMostTwo
 pub mod ByKind
 pub mod Cheapest
 pub mod Found
+pub mod Numbered
+pub mod Rest

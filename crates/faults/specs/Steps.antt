@@ -3,24 +3,24 @@ use mathlib.Core.Path.{_≡_}
 use mathlib.Core.Bool.{Bool}
 use mathlib.Core.List.{List, [], _∷_}
 use Prim.Native.Nat.{ℕ, _+_, _≤_, _<_, min}
-use lib.Dec.{eqb, ltb}
+use lib.Dec.{eqb}
 use lib.ListN.{length, getD, take}
-use Rattle.theory.specs.Below.{first}
 use Rattle.theory.specs.Lists.{In}
 use Rattle.theory.specs.Automaton.{Automaton, run}
 use Rattle.theory.specs.Monitor.{stateLimit}
-use Rattle.theory.specs.Faults.{FaultStep, stepOf, seconds}
+use Rattle.theory.specs.Faults.{FaultStep}
 use Rattle.pairs.specs.Square.{never, entry}
 use Rattle.faults.specs.declared.Symbols.{Symbols}
 use Rattle.faults.specs.declared.Fault.{Fault}
+use Rattle.faults.specs.Kinds.{bitOf}
 
 -- the symbols as a trace
-abbrev pub symbolsOf : Symbols → List ℕ
-symbolsOf s = take (s .count) (s .first ∷ s .second ∷ [])
+abbrev pub traceOf : Symbols → List ℕ
+traceOf s = take (s .count) (s .first ∷ s .second ∷ [])
 
 -- the fault step that a fault stands for
 abbrev pub stepFor : Fault → FaultStep
-stepFor f = record { kind = f .bit; sent = symbolsOf (f .sent); received = symbolsOf (f .received); replacement = f .replacement }
+stepFor f = record { kind = bitOf (f .kind); sent = traceOf (f .sent); received = traceOf (f .received); replacement = f .replacement }
 
 -- at most two symbols, each below k
 pub record Inside (k : ℕ) (s : Symbols) : Type 0 where
@@ -37,29 +37,21 @@ pub record Ranged (k : ℕ) (f : Fault) : Type 0 where
 abbrev pub plus : ℕ → ℕ → ℕ
 plus l e = min (l + e) never
 
--- the fewest symbols sent from p by a harmful series that begins with the fault step s, by the square d
+-- the fewest symbols sent from p by a harmful series that begins with the fault step s, by the square
 abbrev pub costOf : Automaton → List ℕ → ℕ → FaultStep → ℕ
-costOf g d p s = plus (length (s .sent)) (entry d (run g p (s .sent)) (run g p (s .received)))
+costOf g square p s = plus (length (s .sent)) (entry square (run g p (s .sent)) (run g p (s .received)))
 
 -- the fault step s costs this at p
 abbrev pub costing : Automaton → List ℕ → ℕ → ℕ → FaultStep → Bool
-costing g d p cost s = eqb (costOf g d p s) cost
-
--- the first replacement or neighbour with which the step of this rank at symbol a costs this, or how many there are
-abbrev pub secondWith : Automaton → List ℕ → ℕ → ℕ → ℕ → ℕ → ℕ
-secondWith g d p cost rank a = first (λ b. costing g d p cost (stepOf rank a b)) 0 (seconds rank (g .symbols))
-
--- the first symbol with which some step of this rank costs this, or how many symbols there are
-abbrev pub firstWith : Automaton → List ℕ → ℕ → ℕ → ℕ → ℕ
-firstWith g d p cost rank = first (λ a. ltb (secondWith g d p cost rank a) (seconds rank (g .symbols))) 0 (g .symbols)
+costing g square p cost s = eqb (costOf g square p s) cost
 
 -- a cost that no step undercuts and, where it is not never, some step has
-pub record Cheapest (g : Automaton) (d : List ℕ) (p : ℕ) (steps : List FaultStep) (cost : ℕ) : Type 0 where
+pub record Cheapest (g : Automaton) (square : List ℕ) (p : ℕ) (steps : List FaultStep) (cost : ℕ) : Type 0 where
   pub most : cost ≤ never
-  pub least : (s : FaultStep) → In s steps → cost ≤ costOf g d p s
-  pub attained : cost < never → (s : FaultStep) × In s steps × (costOf g d p s ≡ cost)
+  pub least : (s : FaultStep) → In s steps → cost ≤ costOf g square p s
+  pub attained : cost < never → (s : FaultStep) × In s steps × (costOf g square p s ≡ cost)
 
 -- the costs of the states below `upto`
-pub record Costs (g : Automaton) (d : List ℕ) (steps : List FaultStep) (upto : ℕ) (costs : List ℕ) : Type 0 where
+pub record Costs (g : Automaton) (square : List ℕ) (steps : List FaultStep) (upto : ℕ) (costs : List ℕ) : Type 0 where
   pub size : length costs ≡ stateLimit
-  pub each : (p : ℕ) → p < upto → Cheapest g d p steps (getD costs p 0)
+  pub each : (p : ℕ) → p < upto → Cheapest g square p steps (getD costs p 0)

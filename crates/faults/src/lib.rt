@@ -3,27 +3,58 @@ use pairs::NEVER;
 use theory::SQUARE_SIZE;
 use theory::STATE_LIMIT;
 ghost use mathlib.Core.Path.{_≡_};
-ghost use mathlib.Core.Bool.{cond};
-ghost use mathlib.Core.List.{[], _∷_};
+ghost use mathlib.Core.List.{_∷_};
 ghost use mathlib.Core.Option.{some};
-ghost use Prim.Native.Nat.{ℕ, _+_, _≤_, _<_};
+ghost use Prim.Native.Nat.{ℕ, _+_, _-_, _≤_, _<_};
 ghost use lib.ListN.{length};
 ghost use lib.Seq.{sets};
 ghost use lib.Bits.{bitOr};
-ghost use Rattle.theory.specs.Lists.{find, each};
+ghost use Rattle.theory.specs.Below.{first};
+ghost use Rattle.theory.specs.Lists.{find};
 ghost use Rattle.theory.specs.Automaton.{run};
 ghost use Rattle.theory.specs.Monitor.{stateLimit, symbolLimit};
-ghost use Rattle.theory.specs.Faults.{kinds, stepOf, seconds, holds, stepsOfKind, steps};
-ghost use Rattle.monitor.specs.Format.{Rows, automatonOf};
+ghost use Rattle.theory.specs.Faults.{kinds, allFaults, stepOf, seconds, holds, stepsOfKind, steps};
+ghost use Rattle.monitor.specs.Format.{Rows, graph};
 ghost use Rattle.pairs.specs.Square.{never};
-ghost use Rattle.faults.specs.Steps.{symbolsOf, stepFor, Inside, Ranged, costOf, costing, secondWith, firstWith, Cheapest, Costs};
+ghost use Rattle.faults.specs.Kinds.{rankOf, bitOf};
+ghost use Rattle.faults.specs.Steps.{traceOf, stepFor, Inside, Ranged, costOf, costing, Cheapest, Costs};
+ghost use Rattle.faults.specs.Rest.{stepsFrom, stepsIfHeld, between, Placed, stepAt, rest};
+
+// A kind of fault.
+pub enum Kind {
+    Loss,
+    Corruption,
+    Repeat,
+    Swap,
+}
 
 // How many kinds of fault there are.
-const KINDS: usize = 4;
+pub const KINDS: usize = 4;
 
-// A set of faults: the sum of their bits. The fault question takes the number, so that question 9 refuses a set with a bit of no fault.
+// The kind of a rank: the kinds in the written order.
+pub fn kind_at(rank: usize) -> Kind
+    requires { ⌜ rank < kinds ⌝ }
+    ensures { λ r. ⌜ rankOf r ≡ rank ⌝ }
+{
+    match rank {
+        0 => Kind::Loss,
+        1 => Kind::Corruption,
+        2 => Kind::Repeat,
+        _ => Kind::Swap,
+    }
+}
+
+// Whether the bit of this rank is set in the number.
+fn has_bit(number: usize, rank: usize) -> bool
+    requires { ⌜ rank < kinds ⌝ }
+    ensures { λ r. ⌜ r ≡ holds number rank ⌝ }
+{
+    (number >> rank) & 1 == 1
+}
+
+// A set of faults: the sum of their bits. It is built by adding kinds, so that it has no bit of no fault.
 pub struct FaultSet {
-    pub bits: usize,
+    bits: usize,
 }
 
 impl FaultSet {
@@ -37,18 +68,76 @@ impl FaultSet {
 
     pub const ALL: usize = 15;
 
+    // The fixed bit of a kind.
+    pub fn bit_of(kind: Kind) -> usize
+        ensures { λ r. ⌜ r ≡ bitOf kind ⌝ }
+    {
+        match kind {
+            Kind::Loss => Self::LOSS,
+            Kind::Corruption => Self::CORRUPTION,
+            Kind::Repeat => Self::REPEAT,
+            Kind::Swap => Self::SWAP,
+        }
+    }
+
     pub fn empty() -> Self
         ensures { λ r. ⌜ r .bits ≡ 0 ⌝ }
     {
         Self { bits: 0 }
     }
 
-    // The set with the bits of `kind` too: one of the constants, or any number. Question 9 refuses a set with a bit of no fault.
-    pub fn with(mut self, kind: usize) -> Self
-        ensures { λ r. ⌜ r .bits ≡ bitOr (self .bits) kind ⌝ }
+    // The set with this kind too.
+    pub fn with(mut self, kind: Kind) -> Self
+        ensures { λ r. ⌜ r .bits ≡ bitOr (self .bits) (bitOf kind) ⌝ }
     {
-        self.bits = self.bits | kind;
+        self.bits = self.bits | Self::bit_of(kind);
         self
+    }
+
+    // The set that a number stands for: each kind whose bit the number has.
+    pub fn of(number: usize) -> Self
+        requires { ⌜ number ≤ allFaults ⌝ }
+        ensures { λ r. ⌜ r .bits ≡ number ⌝ }
+    {
+        let mut set = Self::empty();
+        let mut rank = 0;
+        while rank < KINDS {
+            if has_bit(number, rank) {
+                set = set.with(kind_at(rank));
+            }
+            rank += 1;
+        }
+        set
+    }
+
+    // The number that stands for the set.
+    pub fn number(self) -> usize
+        ensures { λ r. ⌜ r ≡ self .bits ⌝ }
+    {
+        self.bits
+    }
+
+    // Whether the set has the kind of this rank.
+    fn has(self, rank: usize) -> bool
+        requires { ⌜ rank < kinds ⌝ }
+        ensures { λ r. ⌜ r ≡ holds (self .bits) rank ⌝ }
+    {
+        has_bit(self.bits, rank)
+    }
+
+    // The first rank from this one on whose kind the set has, or KINDS.
+    fn held_from(self, rank: usize) -> usize
+        requires { ⌜ rank ≤ kinds ⌝ }
+        ensures { λ r. ⌜ r ≡ first (holds (self .bits)) rank (kinds - rank) ⌝ }
+    {
+        let mut at = rank;
+        while at < KINDS {
+            if self.has(at) {
+                return at;
+            }
+            at += 1;
+        }
+        at
     }
 }
 
@@ -71,62 +160,54 @@ impl Symbols {
     }
 }
 
-// A fault step: its fixed bit, the symbols it covers, the symbols delivered in their place, and the replacement (0 except for corruption).
+// A fault step: its kind, the symbols it covers, the symbols delivered in their place, and the replacement (0 except for
+// corruption).
 pub struct Fault {
-    pub bit: usize,
+    pub kind: Kind,
     pub sent: Symbols,
     pub received: Symbols,
     pub replacement: usize,
 }
 
-// Whether the set has the kind of this rank.
-fn has_kind(set: usize, rank: usize) -> bool
-    requires { ⌜ rank < kinds ⌝ }
-    ensures { λ r. ⌜ r ≡ holds set rank ⌝ }
-{
-    (set >> rank) & 1 == 1
-}
-
 // How many replacements or neighbours a kind goes through.
-fn seconds_of(rank: usize, k: usize) -> usize
-    ensures { λ r. ⌜ r ≡ seconds rank k ⌝ }
+fn seconds_of(kind: Kind, k: usize) -> usize
+    ensures { λ r. ⌜ r ≡ seconds (rankOf kind) k ⌝ }
 {
-    match rank {
-        0 => 1,
-        1 => k,
-        2 => 1,
-        _ => k,
+    match kind {
+        Kind::Loss => 1,
+        Kind::Corruption => k,
+        Kind::Repeat => 1,
+        Kind::Swap => k,
     }
 }
 
-// The fault step of a kind, by its rank in the written order, at symbol a; b is the replacement or the neighbour.
+// The fault step of a kind at symbol a; b is the replacement or the neighbour.
 // Only this function and `seconds_of` say what a kind does.
-pub fn fault_of(rank: usize, a: usize, b: usize) -> Fault
-    requires { ⌜ rank < kinds ⌝ }
-    ensures step { λ r. ⌜ stepFor r ≡ stepOf rank a b ⌝ }
+pub fn fault_of(kind: Kind, a: usize, b: usize) -> Fault
+    ensures step { λ r. ⌜ stepFor r ≡ stepOf (rankOf kind) a b ⌝ }
     ensures ranged { λ r. ⌜ ((k : ℕ) → a < k → b < k → Ranged k r) ⌝ }
 {
-    match rank {
-        0 => Fault {
-            bit: FaultSet::LOSS,
+    match kind {
+        Kind::Loss => Fault {
+            kind,
             sent: Symbols::new(1, a, 0),
             received: Symbols::new(0, 0, 0),
             replacement: 0,
         },
-        1 => Fault {
-            bit: FaultSet::CORRUPTION,
+        Kind::Corruption => Fault {
+            kind,
             sent: Symbols::new(1, a, 0),
             received: Symbols::new(1, b, 0),
             replacement: b,
         },
-        2 => Fault {
-            bit: FaultSet::REPEAT,
+        Kind::Repeat => Fault {
+            kind,
             sent: Symbols::new(1, a, 0),
             received: Symbols::new(2, a, a),
             replacement: 0,
         },
-        _ => Fault {
-            bit: FaultSet::SWAP,
+        Kind::Swap => Fault {
+            kind,
             sent: Symbols::new(2, a, b),
             received: Symbols::new(2, b, a),
             replacement: 0,
@@ -134,10 +215,79 @@ pub fn fault_of(rank: usize, a: usize, b: usize) -> Fault
     }
 }
 
+// A place among the fault steps of a set, in the written order: the rank of the kind, the first symbol, and the replacement
+// or neighbour. Behind the last step the rank is KINDS.
+pub struct Cursor {
+    rank: usize,
+    first: usize,
+    second: usize,
+}
+
+impl Cursor {
+    // At the first fault step of the kinds from this rank on.
+    fn from_rank(set: FaultSet, rank: usize) -> Self
+        requires { ⌜ rank ≤ kinds ⌝ }
+        ensures rest { λ r. ⌜ ((k : ℕ) → 0 < k → rest (set .bits) k r ≡ between rank kinds (stepsIfHeld (set .bits) k)) ⌝ }
+        ensures placed { λ r. ⌜ ((k : ℕ) → 0 < k → Placed k r) ⌝ }
+    {
+        Self {
+            rank: set.held_from(rank),
+            first: 0,
+            second: 0,
+        }
+    }
+
+    // At the first fault step of the set.
+    pub fn begin(set: FaultSet) -> Self
+        ensures rest { λ r. ⌜ ((k : ℕ) → 0 < k → rest (set .bits) k r ≡ steps (set .bits) k) ⌝ }
+        ensures placed { λ r. ⌜ ((k : ℕ) → 0 < k → Placed k r) ⌝ }
+    {
+        Self::from_rank(set, 0)
+    }
+
+    // The fault step here.
+    pub fn step(self) -> Fault
+        requires { ⌜ self .rank < kinds ⌝ }
+        ensures step { λ r. ⌜ stepFor r ≡ stepAt self ⌝ }
+        ensures ranged { λ r. ⌜ ((k : ℕ) → Placed k self → Ranged k r) ⌝ }
+    {
+        fault_of(kind_at(self.rank), self.first, self.second)
+    }
+
+    // At the next fault step of the set.
+    pub fn next(self, set: FaultSet, k: usize) -> Self
+        requires { ⌜ self .rank < kinds ⌝ }
+        requires { ⌜ Placed k self ⌝ }
+        ensures rest { λ r. ⌜ rest (set .bits) k self ≡ stepAt self ∷ rest (set .bits) k r ⌝ }
+        ensures placed { λ r. ⌜ Placed k r ⌝ }
+    {
+        let second = self.second + 1;
+        if second < seconds_of(kind_at(self.rank), k) {
+            return Self {
+                rank: self.rank,
+                first: self.first,
+                second,
+            };
+        }
+        let first = self.first + 1;
+        if first < k {
+            return Self {
+                rank: self.rank,
+                first,
+                second: 0,
+            };
+        }
+        Self::from_rank(set, self.rank + 1)
+    }
+}
+
 // The state after at most two symbols.
 pub fn after(nexts: &[u8], n: usize, k: usize, p: usize, symbols: Symbols) -> usize
-    requires { ⌜ Rows stateLimit n k (now nexts) × (p < n) × Inside k symbols ⌝ }
-    ensures { λ r. ⌜ (r ≡ run (automatonOf n k (now (nexts .entry))) p (symbolsOf symbols)) × (r < n) ⌝ }
+    requires { ⌜ Rows stateLimit n k (now nexts) ⌝ }
+    requires { ⌜ p < n ⌝ }
+    requires { ⌜ Inside k symbols ⌝ }
+    ensures run { λ r. ⌜ r ≡ run (graph n k (nexts .entry)) p (traceOf symbols) ⌝ }
+    ensures inside { λ r. ⌜ r < n ⌝ }
 {
     if symbols.count == 0 {
         return p;
@@ -151,8 +301,9 @@ pub fn after(nexts: &[u8], n: usize, k: usize, p: usize, symbols: Symbols) -> us
 
 // Writes the symbols into the area, from `at` on.
 pub fn write_symbols(symbols: Symbols, area: &mut [u8], at: usize)
-    requires { ⌜ (at + length (symbolsOf symbols) ≤ length (now area)) × Inside symbolLimit symbols ⌝ }
-    ensures { λ _. ⌜ now (area .exit) ≡ sets (now (area .entry)) at (symbolsOf symbols) ⌝ }
+    requires { ⌜ at + length (traceOf symbols) ≤ length (now area) ⌝ }
+    requires { ⌜ Inside symbolLimit symbols ⌝ }
+    ensures { λ _. ⌜ now (area .exit) ≡ sets (now (area .entry)) at (traceOf symbols) ⌝ }
 {
     if symbols.count == 0 {
         return;
@@ -173,8 +324,10 @@ fn cost_of(
     p: usize,
     fault: Fault,
 ) -> usize
-    requires { ⌜ Rows stateLimit n k (now nexts) × (p < n) × Ranged k fault ⌝ }
-    ensures { λ r. ⌜ r ≡ costOf (automatonOf n k (now (nexts .entry))) (now (square .entry)) p (stepFor fault) ⌝ }
+    requires { ⌜ Rows stateLimit n k (now nexts) ⌝ }
+    requires { ⌜ p < n ⌝ }
+    requires { ⌜ Ranged k fault ⌝ }
+    ensures { λ r. ⌜ r ≡ costOf (graph n k (nexts .entry)) (now (square .entry)) p (stepFor fault) ⌝ }
 {
     let x = after(nexts, n, k, p, fault.sent);
     let y = after(nexts, n, k, p, fault.received);
@@ -188,17 +341,19 @@ fn cost_from(
     n: usize,
     k: usize,
     p: usize,
-    rank: usize,
+    kind: Kind,
     first: usize,
 ) -> usize
-    requires { ⌜ Rows stateLimit n k (now nexts) × (p < n) × (rank < kinds) × (first < k) ⌝ }
-    ensures { λ r. ⌜ Cheapest (automatonOf n k (now (nexts .entry))) (now (square .entry)) p (each (seconds rank k) (λ b. stepOf rank first b ∷ [])) r ⌝ }
+    requires { ⌜ Rows stateLimit n k (now nexts) ⌝ }
+    requires { ⌜ p < n ⌝ }
+    requires { ⌜ first < k ⌝ }
+    ensures { λ r. ⌜ Cheapest (graph n k (nexts .entry)) (now (square .entry)) p (stepsFrom k (rankOf kind) first) r ⌝ }
 {
-    let count = seconds_of(rank, k);
+    let count = seconds_of(kind, k);
     let mut least = NEVER;
     let mut second = 0;
     while second < count {
-        let fault = fault_of(rank, first, second);
+        let fault = fault_of(kind, first, second);
         least = basics::least_of(cost_of(square, nexts, n, k, p, fault), least);
         second += 1;
     }
@@ -212,15 +367,16 @@ fn cost_of_kind(
     n: usize,
     k: usize,
     p: usize,
-    rank: usize,
+    kind: Kind,
 ) -> usize
-    requires { ⌜ Rows stateLimit n k (now nexts) × (p < n) × (rank < kinds) ⌝ }
-    ensures { λ r. ⌜ Cheapest (automatonOf n k (now (nexts .entry))) (now (square .entry)) p (stepsOfKind k rank) r ⌝ }
+    requires { ⌜ Rows stateLimit n k (now nexts) ⌝ }
+    requires { ⌜ p < n ⌝ }
+    ensures { λ r. ⌜ Cheapest (graph n k (nexts .entry)) (now (square .entry)) p (stepsOfKind k (rankOf kind)) r ⌝ }
 {
     let mut least = NEVER;
     let mut first = 0;
     while first < k {
-        least = basics::least_of(cost_from(square, nexts, n, k, p, rank, first), least);
+        least = basics::least_of(cost_from(square, nexts, n, k, p, kind, first), least);
         first += 1;
     }
     least
@@ -232,15 +388,17 @@ fn cost_if_held(
     nexts: &[u8],
     n: usize,
     k: usize,
-    set: usize,
+    set: FaultSet,
     p: usize,
     rank: usize,
 ) -> usize
-    requires { ⌜ Rows stateLimit n k (now nexts) × (p < n) × (rank < kinds) ⌝ }
-    ensures { λ r. ⌜ Cheapest (automatonOf n k (now (nexts .entry))) (now (square .entry)) p (cond (holds set rank) (stepsOfKind k rank) []) r ⌝ }
+    requires { ⌜ Rows stateLimit n k (now nexts) ⌝ }
+    requires { ⌜ p < n ⌝ }
+    requires { ⌜ rank < kinds ⌝ }
+    ensures { λ r. ⌜ Cheapest (graph n k (nexts .entry)) (now (square .entry)) p (stepsIfHeld (set .bits) k rank) r ⌝ }
 {
-    if has_kind(set, rank) {
-        return cost_of_kind(square, nexts, n, k, p, rank);
+    if set.has(rank) {
+        return cost_of_kind(square, nexts, n, k, p, kind_at(rank));
     }
     NEVER
 }
@@ -251,11 +409,12 @@ fn cost_at(
     nexts: &[u8],
     n: usize,
     k: usize,
-    set: usize,
+    set: FaultSet,
     p: usize,
 ) -> usize
-    requires { ⌜ Rows stateLimit n k (now nexts) × (p < n) ⌝ }
-    ensures { λ r. ⌜ Cheapest (automatonOf n k (now (nexts .entry))) (now (square .entry)) p (steps set k) r ⌝ }
+    requires { ⌜ Rows stateLimit n k (now nexts) ⌝ }
+    requires { ⌜ p < n ⌝ }
+    ensures { λ r. ⌜ Cheapest (graph n k (nexts .entry)) (now (square .entry)) p (steps (set .bits) k) r ⌝ }
 {
     let mut least = NEVER;
     let mut rank = 0;
@@ -272,10 +431,10 @@ pub fn costs(
     nexts: &[u8],
     n: usize,
     k: usize,
-    set: usize,
+    set: FaultSet,
 ) -> [usize; STATE_LIMIT]
     requires { ⌜ Rows stateLimit n k (now nexts) ⌝ }
-    ensures { λ r. ⌜ Costs (automatonOf n k (now (nexts .entry))) (now (square .entry)) (steps set k) n r ⌝ }
+    ensures { λ r. ⌜ Costs (graph n k (nexts .entry)) (now (square .entry)) (steps (set .bits) k) n r ⌝ }
 {
     let mut costs = [NEVER; STATE_LIMIT];
     let mut p = 0;
@@ -286,98 +445,27 @@ pub fn costs(
     costs
 }
 
-// The first replacement or neighbour with which the fault of a kind at p with the given first symbol costs this much, or how many there are.
-fn second_with(
-    square: &[u16; SQUARE_SIZE],
-    nexts: &[u8],
-    n: usize,
-    k: usize,
-    p: usize,
-    rank: usize,
-    first: usize,
-    cost: usize,
-) -> usize
-    requires { ⌜ Rows stateLimit n k (now nexts) × (p < n) × (rank < kinds) × (first < k) ⌝ }
-    ensures { λ r. ⌜ r ≡ secondWith (automatonOf n k (now (nexts .entry))) (now (square .entry)) p cost rank first ⌝ }
-{
-    let count = seconds_of(rank, k);
-    let mut second = 0;
-    while second < count {
-        let fault = fault_of(rank, first, second);
-        if cost_of(square, nexts, n, k, p, fault) == cost {
-            return second;
-        }
-        second += 1;
-    }
-    second
-}
-
-// The first symbol with which some fault of a kind at p costs this much, or k.
-fn first_with(
-    square: &[u16; SQUARE_SIZE],
-    nexts: &[u8],
-    n: usize,
-    k: usize,
-    p: usize,
-    rank: usize,
-    cost: usize,
-) -> usize
-    requires { ⌜ Rows stateLimit n k (now nexts) × (p < n) × (rank < kinds) ⌝ }
-    ensures { λ r. ⌜ r ≡ firstWith (automatonOf n k (now (nexts .entry))) (now (square .entry)) p cost rank ⌝ }
-{
-    let count = seconds_of(rank, k);
-    let mut first = 0;
-    while first < k {
-        if second_with(square, nexts, n, k, p, rank, first, cost) < count {
-            return first;
-        }
-        first += 1;
-    }
-    first
-}
-
-// The same where the set has the kind, else k.
-fn first_if_held(
-    square: &[u16; SQUARE_SIZE],
-    nexts: &[u8],
-    n: usize,
-    k: usize,
-    set: usize,
-    p: usize,
-    rank: usize,
-    cost: usize,
-) -> usize
-    requires { ⌜ Rows stateLimit n k (now nexts) × (p < n) × (rank < kinds) ⌝ }
-    ensures { λ r. ⌜ r ≡ cond (holds set rank) (firstWith (automatonOf n k (now (nexts .entry))) (now (square .entry)) p cost rank) k ⌝ }
-{
-    if has_kind(set, rank) {
-        return first_with(square, nexts, n, k, p, rank, cost);
-    }
-    k
-}
-
 // The first fault of the set, in the written order, that costs what the cheapest at p does.
 pub fn fault_with(
     square: &[u16; SQUARE_SIZE],
     nexts: &[u8],
     n: usize,
     k: usize,
-    set: usize,
+    set: FaultSet,
     p: usize,
     cost: usize,
 ) -> Fault
-    requires { ⌜ Rows stateLimit n k (now nexts) × (p < n) × (cost < never) × Cheapest (automatonOf n k (now nexts)) (now square) p (steps set k) cost ⌝ }
-    ensures first { λ r. ⌜ find (costing (automatonOf n k (now (nexts .entry))) (now (square .entry)) p cost) (steps set k) ≡ some (stepFor r) ⌝ }
+    requires { ⌜ Rows stateLimit n k (now nexts) ⌝ }
+    requires { ⌜ p < n ⌝ }
+    requires { ⌜ cost < never ⌝ }
+    requires { ⌜ Cheapest (graph n k nexts) (now square) p (steps (set .bits) k) cost ⌝ }
+    ensures first { λ r. ⌜ find (costing (graph n k (nexts .entry)) (now (square .entry)) p cost) (steps (set .bits) k)
+        ≡ some (stepFor r) ⌝ }
     ensures ranged { λ r. ⌜ Ranged k r ⌝ }
 {
-    let mut rank = 0;
-    while rank < KINDS {
-        let first = first_if_held(square, nexts, n, k, set, p, rank, cost);
-        if first < k {
-            let second = second_with(square, nexts, n, k, p, rank, first, cost);
-            return fault_of(rank, first, second);
-        }
-        rank += 1;
+    let mut at = Cursor::begin(set);
+    while cost_of(square, nexts, n, k, p, at.step()) != cost {
+        at = at.next(set, k);
     }
-    fault_of(0, 0, 0)
+    at.step()
 }

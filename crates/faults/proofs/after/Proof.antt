@@ -8,7 +8,7 @@ use Rattle.faults.proofs.after.Tie as tie
 
 returns : tie.Need-returns
 unfolding run
-returns c = (rw (c .if1 .taken), c .before .before .before .pre .1)
+returns c = (rw (c .if1 .taken), c .before .before .before .pre .1 .0)
 
 successor-requires : tie.Need-successor-requires
 successor-requires c κs = search needs
@@ -27,7 +27,7 @@ returns-3 c =
     let start = c .before .before .before .before .before .before .before in
     let a = start .args in
     let y = c .successor2 .ensures in
-    (rw (count-two (start .pre .2) (c .before .before .before .before .if1 .left) (c .before .if2 .left)) (run-two (automatonOf (a .n) (a .k) (a .nexts .now)) (c .before .before .before .successor .ensures .0) (y .0)), y .1)
+    (rw (count-two (start .pre .1 .1) (c .before .before .before .before .if1 .left) (c .before .if2 .left)) (run-two (automatonOf (a .n) (a .k) (a .nexts .now)) (c .before .before .before .successor .ensures .0) (y .0)), y .1)
 
 pub after-spec : {M : Type 1} → statement M
 after-spec =

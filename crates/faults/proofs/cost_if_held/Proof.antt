@@ -5,19 +5,22 @@ use Rattle.faults.proofs.Cheapest.{cheapest-none}
 use Rattle.faults.proofs.cost_if_held.Statement.{statement}
 use Rattle.faults.proofs.cost_if_held.Tie as tie
 
-has-kind-requires : tie.Need-has-kind-requires
-has-kind-requires c κs = search needs
+has-requires : tie.Need-has-requires
+has-requires c κs = search needs
+
+kind-at-requires : tie.Need-kind-at-requires
+kind-at-requires c κs = search needs
 
 cost-of-kind-requires : tie.Need-cost-of-kind-requires
 cost-of-kind-requires c κs = search needs
 
 returns : tie.Need-returns
-returns c = rw (sym (c .before .before .has-kind .ensures) ∙ c .before .if1 .taken) (c .cost-of-kind .ensures)
+returns c = rw (sym (c .before .before .before .has .ensures) ∙ c .before .before .if1 .taken) (rw (c .before .kind-at .ensures) at (c .cost-of-kind .ensures))
 
 returns-2 : tie.Need-returns-2
-returns-2 c = rw (sym (c .before .has-kind .ensures) ∙ c .if1 .left) cheapest-none
+returns-2 c = rw (sym (c .before .has .ensures) ∙ c .if1 .left) cheapest-none
 
 pub cost-if-held-spec : {M : Type 1} → statement M
 cost-if-held-spec =
     tie.close
-    (tie.spec has-kind-requires cost-of-kind-requires returns returns-2)
+    (tie.spec has-requires kind-at-requires cost-of-kind-requires returns returns-2)

@@ -29,7 +29,7 @@ returns c =
     let a = start .args in
     c .least-of .ensures
     ∙ cost-is (automatonOf (a .n) (a .k) (a .nexts .now)) (a .square .now) (a .p) (stepFor (a .fault))
-    (c .before .before .before .before .after .ensures .0) (c .before .before .before .after2 .ensures .0) (count-is (a .fault .sent) (start .pre .2 .sent-in .count-most)) (c .before .before .entry-at .ensures .0)
+    (c .before .before .before .before .after .ensures .0) (c .before .before .before .after2 .ensures .0) (count-is (a .fault .sent) (start .pre .1 .1 .sent-in .count-most)) (c .before .before .entry-at .ensures .0)
 
 pub cost-of-spec : {M : Type 1} → statement M
 cost-of-spec =

@@ -3,20 +3,21 @@ use Prim.Native.Nat.{_≤_, _-_}
 use borrow.Author.Needs.{needs}
 use Rattle.theory.specs.Lists.{each}
 use Rattle.monitor.specs.Format.{automatonOf}
+use Rattle.faults.specs.Kinds.{rankOf}
 use Rattle.faults.specs.Steps.{Cheapest}
-use Rattle.faults.proofs.ByKind.{stepsFrom}
+use Rattle.faults.specs.Rest.{stepsFrom}
 use Rattle.faults.proofs.Cheapest.{cheapest-begin, cheapest-turn, cheapest-end}
 use Rattle.faults.proofs.cost_of_kind.Statement.{statement}
 use Rattle.faults.proofs.cost_of_kind.Tie as tie
 
 abbrev Inv-loop : tie.InvT-loop
-Inv-loop square nexts n k p rank least₀ first₀ least first = (first ≤ k) × Cheapest (automatonOf n k nexts) square p (each first (stepsFrom k rank)) least
+Inv-loop square nexts n k p kind least₀ first₀ least first = (first ≤ k) × Cheapest (automatonOf n k nexts) square p (each first (stepsFrom k (rankOf kind))) least
 
 abbrev μ-loop : tie.MeasureT-loop
-μ-loop square nexts n k p rank least₀ first₀ least first = k - first
+μ-loop square nexts n k p kind least₀ first₀ least first = k - first
 
 loop-holds : tie.Need-loop-holds Inv-loop μ-loop
-loop-holds c = (let a = c .before .args in (search needs, cheapest-begin (stepsFrom (a .k) (a .rank))))
+loop-holds c = (let a = c .before .args in (search needs, cheapest-begin (stepsFrom (a .k) (rankOf (a .kind)))))
 
 cost-from-requires : tie.Need-cost-from-requires Inv-loop μ-loop
 cost-from-requires c κs = search needs
@@ -33,13 +34,13 @@ loop-less c = search needs
 loop-again : tie.Need-loop-again Inv-loop μ-loop
 loop-again c =
     let a = c .before .before .before .before .before .args in
-    (search needs, cheapest-turn (stepsFrom (a .k) (a .rank)) (c .before .before .before .loop .inv .1) (c .before .cost-from .ensures) (c .least-of .ensures))
+    (search needs, cheapest-turn (stepsFrom (a .k) (rankOf (a .kind))) (c .before .before .before .loop .inv .1) (c .before .cost-from .ensures) (c .least-of .ensures))
 
 returns : tie.Need-returns Inv-loop μ-loop
 returns c =
     let a = c .before .before .before .args in
     let at = c .before .loop in
-    cheapest-end (stepsFrom (a .k) (a .rank)) (at .inv .1) (at .inv .0) (c .loop-test .left)
+    cheapest-end (stepsFrom (a .k) (rankOf (a .kind))) (at .inv .1) (at .inv .0) (c .loop-test .left)
 
 pub cost-of-kind-spec : {M : Type 1} → statement M
 cost-of-kind-spec =

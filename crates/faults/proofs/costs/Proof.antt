@@ -11,7 +11,7 @@ use Rattle.faults.proofs.costs.Statement.{statement}
 use Rattle.faults.proofs.costs.Tie as tie
 
 abbrev Inv-loop : tie.InvT-loop
-Inv-loop square nexts n k set costs₀ p₀ costs p = Costs (automatonOf n k nexts) square (steps set k) p costs
+Inv-loop square nexts n k set costs₀ p₀ costs p = Costs (automatonOf n k nexts) square (steps (set .bits) k) p costs
 
 abbrev μ-loop : tie.MeasureT-loop
 μ-loop square nexts n k set costs₀ p₀ costs p = n - p

@@ -1,0 +1,76 @@
+-- `next` meets its contract: the next second, else the next first symbol, else the next kind.
+use mathlib.Core.Path.{_≡_, ap, _∙_}
+use Prim.Native.Nat.{ℕ, _+_, _≤_, _<_}
+use native.Mathlib.Omega.{arith}
+use borrow.Author.Needs.{needs}
+use Rattle.theory.specs.Faults.{seconds}
+use Rattle.faults.proofs.ByKind.{second-in, second-some}
+use Rattle.faults.proofs.Rest.{next-second, next-first, next-rank}
+use Rattle.faults.proofs.Cursor.next.Statement.{statement}
+use Rattle.faults.proofs.Cursor.next.Tie as tie
+
+known : (k : ℕ) {r c rank : ℕ} → r ≡ seconds c k → c ≡ rank → r ≡ seconds rank k
+known k e h = e ∙ ap (λ (c : ℕ). seconds c k) h
+
+add-second : tie.Need-add-second
+add-second c =
+    let at = c .before .args .self in
+    let p = c .before .pre .1 in
+    omega (arith, second-in (at .rank) (p .first-in) (p .second-in))
+
+kind-at-requires : tie.Need-kind-at-requires
+kind-at-requires c κs = search needs
+
+seconds-of-requires : tie.Need-seconds-of-requires
+seconds-of-requires c κs = search needs
+
+returns : tie.Need-returns
+returns c =
+    let start = c .before .before .before .before in
+    let a = start .args in
+    let p = start .pre .1 in
+    let e = known (a .k) (c .before .seconds-of .ensures) (c .before .before .kind-at .ensures) in
+    (next-second (a .set .bits) (a .k) (a .self) (start .pre .0) p, record { first-in = p .first-in; second-in = omega (arith, e, c .if1 .taken) })
+
+add-first : tie.Need-add-first
+add-first c = search needs
+
+returns-2 : tie.Need-returns-2
+returns-2 c =
+    let start = c .before .before .before .before .before .before in
+    let a = start .args in
+    let e = known (a .k) (c .before .before .before .seconds-of .ensures) (c .before .before .before .before .kind-at .ensures) in (
+      next-first (a .set .bits) (a .k) (a .self) (start .pre .0) (start .pre .1) (omega (arith, e, c .before .before .if1 .left)) (c .if2 .taken),
+      record { first-in = c .if2 .taken; second-in = second-some (a .self .rank) (omega (arith, c .if2 .taken)) },
+    )
+
+add-from-rank : tie.Need-add-from-rank
+add-from-rank c = search needs
+
+from-rank-requires : tie.Need-from-rank-requires
+from-rank-requires c κs = search needs
+
+returns-3 : tie.Need-returns-3
+returns-3 c =
+    let start = c .before .before .before .before .before .before .before .before in
+    let a = start .args in
+    let e = known (a .k) (c .before .before .before .before .before .seconds-of .ensures) (c .before .before .before .before .before .before .kind-at .ensures) in
+    let some : 0 < a .k = omega (arith, start .pre .1 .first-in) in
+    let last : seconds (a .self .rank) (a .k) ≤ a .self .second + 1 = omega (arith, e, c .before .before .before .before .if1 .left) in (
+      next-rank (a .set .bits) (a .k) (a .self) (start .pre .0) (start .pre .1) last (c .before .before .if2 .left) (c .from-rank .result) (c .from-rank .ensures .0 (a .k) some),
+      c .from-rank .ensures .1 (a .k) some,
+    )
+
+pub next-spec : {M : Type 1} → statement M
+next-spec =
+    tie.close
+    (tie.spec
+    add-second
+    kind-at-requires
+    seconds-of-requires
+    returns
+    add-first
+    returns-2
+    add-from-rank
+    from-rank-requires
+    returns-3)
