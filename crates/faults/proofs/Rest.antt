@@ -45,20 +45,6 @@ module _ {A : Type 0} (f : ℕ → List A) where
   unfolding onward
   between-none {i} {n} l = (let e : n - i ≡ 0 = omega arith in rw e)
 
-  -- empty lists add nothing
-  skips : (c : ℕ) {i n : ℕ} → i + c ≤ n → ((j : ℕ) → i ≤ j → j < i + c → f j ≡ []) → between i n f ≡ between (i + c) n f
-  skips zero {i} {n} l none = (let e : i + 0 ≡ i = omega arith in rw e)
-  skips (suc c) {i} {n} l none =
-      let e : i + 1 + c ≡ i + suc c = omega arith in
-      between-first (omega arith)
-      ∙ rw (none i (le-refl i) (omega arith)) (skips c (omega arith) (λ j g h. none j (omega arith) (omega arith)))
-      ∙ ap (λ (j : ℕ). between j n f) e
-
-  pub between-skips : {i j n : ℕ} → i ≤ j → j ≤ n → ((m : ℕ) → i ≤ m → m < j → f m ≡ []) → between i n f ≡ between j n f
-  between-skips {i} {j} {n} l h none =
-      let e : i + (j - i) ≡ j = omega arith in
-      skips (j - i) (omega arith) (λ m g u. none m g (omega arith)) ∙ ap (λ (m : ℕ). between m n f) e
-
 -- ---- the cursor
 
 abbrev place : ℕ → ℕ → ℕ → Cursor
@@ -82,25 +68,6 @@ module _ (set k : ℕ) where
   -- the steps of a kind from a symbol on begin with the symbol's first
   opened : (rank : ℕ) {a : ℕ} → a < k → between a k (stepsFrom k rank) ≡ fromSymbol rank a 0
   opened rank {a} l = between-first (stepsFrom k rank) l ∙ ap (λ (xs : List FaultStep). xs ++ between (a + 1) k (stepsFrom k rank)) (each-between (stepWith rank a) (seconds rank k))
-
-  -- all steps of the kinds from a rank on
-  pub rest-from : {rank r : ℕ} → rank ≤ kinds → 0 < k → r ≡ first (holds set) rank (kinds - rank)
-      → rest set k (record { rank = r; first = 0; second = 0 }) ≡ between rank kinds (stepsIfHeld set k)
-  rest-from {rank} {r} l some e = ⊎-elim here behind (lt-or-le r kinds) ∙ sym passed
-    where
-      passed : between rank kinds (stepsIfHeld set k) ≡ between r kinds (stepsIfHeld set k)
-      passed =
-          between-skips (stepsIfHeld set k) (omega (arith, first-ge (holds set) rank (kinds - rank))) (omega (arith, first-le (holds set) rank (kinds - rank)))
-          (λ m g h. rw (first-below (holds set) rank (kinds - rank) m g (omega arith)))
-
-      here : r < kinds → rest set k (place r 0 0) ≡ between r kinds (stepsIfHeld set k)
-      here h =
-          let held : holds set r ≡ true = ap (holds set) e ∙ first-here (holds set) rank (kinds - rank) (omega arith) in
-          let of : stepsIfHeld set k r ≡ fromSymbol r 0 0 = rw held (each-between (stepsFrom k r) k ∙ opened r some) in
-          rest-is (place r 0 0) h ∙ ap (λ (xs : List FaultStep). xs ++ laterKinds r) (sym of) ∙ sym (between-first (stepsIfHeld set k) h)
-
-      behind : kinds ≤ r → rest set k (place r 0 0) ≡ between r kinds (stepsIfHeld set k)
-      behind h = rest-end (place r 0 0) h ∙ sym (between-none (stepsIfHeld set k) h)
 
   -- ---- the next step
 
@@ -126,3 +93,30 @@ module _ (set k : ℕ) where
 
       pub next-rank : k ≤ at .first + 1 → (r : Cursor) → rest set k r ≡ laterKinds (at .rank) → rest set k at ≡ stepAt at ∷ rest set k r
       next-rank l r e = symbol-done ∙ rw (between-none (stepsFrom k (at .rank)) l, e)
+
+-- ---- the first step of the kinds from a rank on
+
+-- the set lacks the kinds passed, and no symbol is passed
+pub record Fresh (set rank : ℕ) (at : Cursor) : Type 0 where
+  pub first-none : at .first ≡ 0
+  pub second-none : at .second ≡ 0
+  pub same : (k : ℕ) → between (at .rank) kinds (stepsIfHeld set k) ≡ between rank kinds (stepsIfHeld set k)
+
+module _ {set rank : ℕ} {at : Cursor} (f : Fresh set rank at) where
+  pub fresh-placed : (k : ℕ) → 0 < k → Placed k at
+  fresh-placed k some = rw (f .first-none, f .second-none) (record { first-in = some; second-in = second-some (at .rank) some })
+
+  pub fresh-held : at .rank < kinds → holds set (at .rank) ≡ true → (k : ℕ) → 0 < k → rest set k at ≡ between rank kinds (stepsIfHeld set k)
+  fresh-held l e k some =
+      let of : stepsIfHeld set k (at .rank) ≡ fromSymbol set k (at .rank) 0 0 = rw e (each-between (stepsFrom k (at .rank)) k ∙ opened set k (at .rank) some) in
+      rest-is set k at l
+      ∙ rw (f .first-none, f .second-none) (ap (λ (xs : List FaultStep). xs ++ laterKinds set k (at .rank)) (sym of))
+      ∙ sym (between-first (stepsIfHeld set k) l)
+      ∙ f .same k
+
+  pub fresh-lacked : at .rank < kinds → holds set (at .rank) ≡ false → Fresh set rank (record { rank = at .rank + 1; first = at .first; second = at .second })
+  fresh-lacked l e =
+      record { first-none = f .first-none; second-none = f .second-none; same = λ k. sym (between-first (stepsIfHeld set k) l ∙ rw e) ∙ f .same k }
+
+  pub fresh-end : kinds ≤ at .rank → (k : ℕ) → rest set k at ≡ between rank kinds (stepsIfHeld set k)
+  fresh-end l k = rest-end set k at l ∙ sym (between-none (stepsIfHeld set k) l) ∙ f .same k

@@ -5,11 +5,10 @@ use theory::STATE_LIMIT;
 ghost use mathlib.Core.Path.{_≡_};
 ghost use mathlib.Core.List.{_∷_};
 ghost use mathlib.Core.Option.{some};
-ghost use Prim.Native.Nat.{ℕ, _+_, _-_, _≤_, _<_};
+ghost use Prim.Native.Nat.{ℕ, _+_, _≤_, _<_};
 ghost use lib.ListN.{length};
 ghost use lib.Seq.{sets};
 ghost use lib.Bits.{bitOr};
-ghost use Rattle.theory.specs.Below.{first};
 ghost use Rattle.theory.specs.Lists.{find};
 ghost use Rattle.theory.specs.Automaton.{run};
 ghost use Rattle.theory.specs.Monitor.{stateLimit, symbolLimit};
@@ -124,21 +123,6 @@ impl FaultSet {
     {
         has_bit(self.bits, rank)
     }
-
-    // The first rank from this one on whose kind the set has, or KINDS.
-    fn held_from(self, rank: usize) -> usize
-        requires { ⌜ rank ≤ kinds ⌝ }
-        ensures { λ r. ⌜ r ≡ first (holds (self .bits)) rank (kinds - rank) ⌝ }
-    {
-        let mut at = rank;
-        while at < KINDS {
-            if self.has(at) {
-                return at;
-            }
-            at += 1;
-        }
-        at
-    }
 }
 
 // At most two symbols, one after the other. What stands behind the count is not looked at.
@@ -230,11 +214,18 @@ impl Cursor {
         ensures rest { λ r. ⌜ ((k : ℕ) → 0 < k → rest (set .bits) k r ≡ between rank kinds (stepsIfHeld (set .bits) k)) ⌝ }
         ensures placed { λ r. ⌜ ((k : ℕ) → 0 < k → Placed k r) ⌝ }
     {
-        Self {
-            rank: set.held_from(rank),
+        let mut at = Self {
+            rank,
             first: 0,
             second: 0,
+        };
+        while at.rank < KINDS {
+            if set.has(at.rank) {
+                return at;
+            }
+            at.rank += 1;
         }
+        at
     }
 
     // At the first fault step of the set.

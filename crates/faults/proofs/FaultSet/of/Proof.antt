@@ -4,6 +4,7 @@ use mathlib.Core.Logic.{⊎-elim}
 use Prim.Native.Nat.{_-_, _≤_}
 use borrow.Author.Needs.{needs}
 use Rattle.theory.specs.Faults.{kinds}
+use Rattle.faults.proofs.ByKind.{bit-is}
 use Rattle.faults.proofs.Numbered.{Below, below-none, below-with, below-without, below-all}
 use Rattle.faults.proofs.FaultSet.of.Statement.{statement}
 use Rattle.faults.proofs.FaultSet.of.Tie as tie
@@ -42,7 +43,7 @@ loop-again c =
     let has = sym (c .before .has-bit .ensures) in (
       search needs,
       ⊎-elim
-          (λ w. rw (w .3, w .2 .ensures, w .1 .ensures) (below-with number (at .rank) (at .inv .1) (has ∙ w .0 .taken)))
+          (λ w. rw (w .3, w .2 .ensures, bit-is, w .1 .ensures) (below-with number (at .rank) (at .inv .1) (has ∙ w .0 .taken)))
           (λ w. rw (w .1) (below-without number (at .rank) (at .inv .1) (has ∙ w .0 .left)))
           (c .if1 .came),
     )
