@@ -33,6 +33,10 @@ module _ {A : Type 0} where
   abbrev pub between : ℕ → ℕ → (ℕ → List A) → List A
   between i n f = onward (n - i) i f
 
+-- the fault steps of the set from this rank on
+abbrev pub stepsOnward : ℕ → ℕ → ℕ → List FaultStep
+stepsOnward set k rank = between rank kinds (stepsIfHeld set k)
+
 -- ---- from a cursor on
 
 -- the symbols at a cursor are among k
@@ -50,5 +54,5 @@ rest set k at =
     cond (ltb (at .rank) kinds)
     ((between (at .second) (seconds (at .rank) k) (stepWith (at .rank) (at .first))
     ++ between (at .first + 1) k (stepsFrom k (at .rank)))
-    ++ between (at .rank + 1) kinds (stepsIfHeld set k))
+    ++ stepsOnward set k (at .rank + 1))
     []

@@ -17,7 +17,7 @@ ghost use Rattle.monitor.specs.Format.{Rows, graph};
 ghost use Rattle.pairs.specs.Square.{never};
 ghost use Rattle.faults.specs.Kinds.{rankOf, bitOf};
 ghost use Rattle.faults.specs.Steps.{traceOf, stepFor, Inside, Ranged, costOf, costing, Cheapest, Costs};
-ghost use Rattle.faults.specs.Rest.{stepsFrom, stepsIfHeld, between, Placed, stepAt, rest};
+ghost use Rattle.faults.specs.Rest.{stepsFrom, stepsIfHeld, stepsOnward, Placed, stepAt, rest};
 
 // A kind of fault.
 pub enum Kind {
@@ -144,8 +144,8 @@ impl Symbols {
     }
 }
 
-// A fault step: its kind, the symbols it covers, the symbols delivered in their place, and the replacement (0 except for
-// corruption).
+// A fault step: its kind, the symbols it covers, the symbols delivered in their place, and the replacement (0 except
+// for corruption).
 pub struct Fault {
     pub kind: Kind,
     pub sent: Symbols,
@@ -199,8 +199,8 @@ pub fn fault_of(kind: Kind, a: usize, b: usize) -> Fault
     }
 }
 
-// A place among the fault steps of a set, in the written order: the rank of the kind, the first symbol, and the replacement
-// or neighbour. Behind the last step the rank is KINDS.
+// A place among the fault steps of a set, in the written order: the rank of the kind, the first symbol, and the
+// replacement or neighbour. Behind the last step the rank is KINDS.
 pub struct Cursor {
     rank: usize,
     first: usize,
@@ -211,7 +211,7 @@ impl Cursor {
     // At the first fault step of the kinds from this rank on.
     fn from_rank(set: FaultSet, rank: usize) -> Self
         requires { ⌜ rank ≤ kinds ⌝ }
-        ensures rest { λ r. ⌜ ((k : ℕ) → 0 < k → rest (set .bits) k r ≡ between rank kinds (stepsIfHeld (set .bits) k)) ⌝ }
+        ensures rest { λ r. ⌜ ((k : ℕ) → 0 < k → rest (set .bits) k r ≡ stepsOnward (set .bits) k rank) ⌝ }
         ensures placed { λ r. ⌜ ((k : ℕ) → 0 < k → Placed k r) ⌝ }
     {
         let mut at = Self {

@@ -35,7 +35,9 @@ loop-less : tie.Need-loop-less Inv-loop μ-loop
 loop-less c = search needs
 
 loop-again : tie.Need-loop-again Inv-loop μ-loop
-loop-again c = costs-more (lt-of-lt-of-le (c .before .loop-test .taken) (c .before .before .before .before .pre .states-most)) (c .before .before .loop .inv) (c .cost-at .ensures)
+loop-again c =
+    let l = lt-of-lt-of-le (c .before .loop-test .taken) (c .before .before .before .before .pre .states-most) in
+    costs-more l (c .before .before .loop .inv) (c .cost-at .ensures)
 
 returns : tie.Need-returns Inv-loop μ-loop
 returns c = costs-end (c .before .loop .inv) (c .loop-test .left)

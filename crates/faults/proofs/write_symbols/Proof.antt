@@ -33,7 +33,8 @@ add-area c = search needs
 slice-write-area-2 : tie.Need-slice-write-area-2
 slice-write-area-2 c =
     let start = c .before .before .before .before .before .before in
-    rw length-set (omega (arith, start .pre .0, count-is (start .args .symbols) (start .pre .1 .count-most), c .before .before .before .before .if1 .left, c .before .if2 .left))
+    let count = count-is (start .args .symbols) (start .pre .1 .count-most) in
+    rw length-set (omega (arith, start .pre .0, count, c .before .before .before .before .if1 .left, c .before .if2 .left))
 
 same-length-2 : tie.Need-same-length-2
 same-length-2 c = search needs

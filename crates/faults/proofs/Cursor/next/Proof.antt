@@ -1,6 +1,6 @@
 -- `next` meets its contract: the next second, else the next first symbol, else the next kind.
 use mathlib.Core.Path.{_≡_, ap, _∙_}
-use Prim.Native.Nat.{ℕ, _+_, _≤_, _<_}
+use Prim.Native.Nat.{ℕ, _<_}
 use native.Mathlib.Omega.{arith}
 use borrow.Author.Needs.{needs}
 use Rattle.theory.specs.Faults.{seconds}
@@ -54,11 +54,12 @@ returns-3 : tie.Need-returns-3
 returns-3 c =
     let start = c .before .before .before .before .before .before .before .before in
     let a = start .args in
-    let e = known (a .k) (c .before .before .before .before .before .seconds-of .ensures) (c .before .before .before .before .before .before .kind-at .ensures) in
-    let some : 0 < a .k = omega (arith, start .pre .1 .first-in) in
-    let last : seconds (a .self .rank) (a .k) ≤ a .self .second + 1 = omega (arith, e, c .before .before .before .before .if1 .left) in (
-      next-rank (a .set .bits) (a .k) (a .self) (start .pre .0) (start .pre .1) last (c .before .before .if2 .left) (c .from-rank .result) (c .from-rank .ensures .0 (a .k) some),
-      c .from-rank .ensures .1 (a .k) some,
+    let at = c .before .before .before .before .before in
+    let e = known (a .k) (at .seconds-of .ensures) (at .before .kind-at .ensures) in
+    let h : 0 < a .k = omega (arith, start .pre .1 .first-in) in (
+      next-rank (a .set .bits) (a .k) (a .self) (start .pre .0) (start .pre .1) (omega (arith, e, c .before .before .before .before .if1 .left))
+          (c .before .before .if2 .left) (c .from-rank .result) (c .from-rank .ensures .0 (a .k) h),
+      c .from-rank .ensures .1 (a .k) h,
     )
 
 pub next-spec : {M : Type 1} → statement M
