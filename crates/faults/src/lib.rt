@@ -89,7 +89,8 @@ impl FaultSet {
     pub fn with(mut self, kind: Kind) -> Self
         ensures { λ r. ⌜ r .bits ≡ bitOr (self .bits) (bitOf kind) ⌝ }
     {
-        self.bits = self.bits | Self::bit_of(kind);
+        let bit = Self::bit_of(kind);
+        self.bits = self.bits | bit;
         self
     }
 
