@@ -51,7 +51,7 @@ fn has_bit(number: usize, rank: usize) -> bool
     (number >> rank) & 1 == 1
 }
 
-// A set of faults: the sum of their bits. It is built by adding kinds, so that it has no bit of no fault.
+// A set of faults: the sum of their bits. It is built by adding kinds, so that it has no other bit.
 pub struct FaultSet {
     bits: usize,
 }
