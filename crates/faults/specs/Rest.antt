@@ -48,7 +48,7 @@ pub record Placed (k : ℕ) (at : Cursor) : Type 0 where
 abbrev pub stepAt : Cursor → FaultStep
 stepAt at = stepOf (at .rank) (at .first) (at .second)
 
--- the fault steps from a cursor on: at its symbol, at the later symbols of its kind, of the later kinds; behind them none
+-- the fault steps from a cursor on: at its symbol, at later symbols of its kind, of later kinds; behind them none
 unfoldable pub rest : ℕ → ℕ → Cursor → List FaultStep
 rest set k at =
     cond (ltb (at .rank) kinds)
