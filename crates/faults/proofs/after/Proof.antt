@@ -10,17 +10,11 @@ returns : tie.Need-returns
 unfolding run
 returns c = (rw (c .if1 .taken), c .before .before .before .pre .1 .0)
 
-successor-requires : tie.Need-successor-requires
-successor-requires c κs = search needs
-
 returns-2 : tie.Need-returns-2
 returns-2 c =
     let a = c .before .before .before .before .before .before .args in
     let x = c .before .before .successor .ensures in
     (rw (c .if2 .taken) (run-one (graph (a .n) (a .k) (a .nexts)) (x .0)), x .1)
-
-successor-requires-2 : tie.Need-successor-requires-2
-successor-requires-2 c κs = search needs
 
 returns-3 : tie.Need-returns-3
 returns-3 c =
@@ -32,4 +26,4 @@ returns-3 c =
 
 pub after-spec : {M : Type 1} → statement M
 after-spec =
-    tie.close (tie.spec returns successor-requires returns-2 successor-requires-2 returns-3)
+    tie.close (tie.spec returns (λ c κs. search needs) returns-2 (λ c κs. search needs) returns-3)

@@ -17,18 +17,6 @@ abbrev μ-loop : tie.MeasureT-loop
 loop-holds : tie.Need-loop-holds Inv-loop μ-loop
 loop-holds c = least-begins
 
-cost-if-held-requires : tie.Need-cost-if-held-requires Inv-loop μ-loop
-cost-if-held-requires c κs = search needs
-
-least-of-requires : tie.Need-least-of-requires Inv-loop μ-loop
-least-of-requires c κs = search needs
-
-add-rank : tie.Need-add-rank Inv-loop μ-loop
-add-rank c = search needs
-
-loop-less : tie.Need-loop-less Inv-loop μ-loop
-loop-less c = search needs
-
 loop-again : tie.Need-loop-again Inv-loop μ-loop
 loop-again c =
     least-goes-on (c .before .before .before .loop .inv) (c .before .before .loop-test .taken) (c .before .cost-if-held .ensures) (c .least-of .ensures)
@@ -44,9 +32,9 @@ cost-at-spec =
     Inv-loop
     μ-loop
     loop-holds
-    cost-if-held-requires
-    least-of-requires
-    add-rank
-    loop-less
+    (λ c κs. search needs)
+    (λ c κs. search needs)
+    (λ c. search needs)
+    (λ c. search needs)
     loop-again
     returns)

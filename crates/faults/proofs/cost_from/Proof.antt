@@ -20,14 +20,8 @@ Inv-loop square nexts n k p kind first count least₀ second₀ least second =
 abbrev μ-loop : tie.MeasureT-loop
 μ-loop square nexts n k p kind first count least₀ second₀ least second = count - second
 
-seconds-of-requires : tie.Need-seconds-of-requires Inv-loop μ-loop
-seconds-of-requires c κs = search needs
-
 loop-holds : tie.Need-loop-holds Inv-loop μ-loop
 loop-holds c = least-begins
-
-fault-of-requires : tie.Need-fault-of-requires Inv-loop μ-loop
-fault-of-requires c κs = search needs
 
 cost-of-requires : tie.Need-cost-of-requires Inv-loop μ-loop
 cost-of-requires c κs =
@@ -37,15 +31,6 @@ cost-of-requires c κs =
     let e = c .before .before .before .seconds-of .ensures in
     let h : c .before .before .loop .second < seconds (rankOf (a .kind)) (a .k) = omega (arith, c .before .loop-test .taken, e) in
     (start .pre .0, (start .pre .1 .0, c .fault-of .ensures .1 (a .k) l (second-in (rankOf (a .kind)) l h)))
-
-least-of-requires : tie.Need-least-of-requires Inv-loop μ-loop
-least-of-requires c κs = search needs
-
-add-second : tie.Need-add-second Inv-loop μ-loop
-add-second c = search needs
-
-loop-less : tie.Need-loop-less Inv-loop μ-loop
-loop-less c = search needs
 
 loop-again : tie.Need-loop-again Inv-loop μ-loop
 loop-again c =
@@ -64,12 +49,12 @@ cost-from-spec =
     (tie.spec
     Inv-loop
     μ-loop
-    seconds-of-requires
+    (λ c κs. search needs)
     loop-holds
-    fault-of-requires
+    (λ c κs. search needs)
     cost-of-requires
-    least-of-requires
-    add-second
-    loop-less
+    (λ c κs. search needs)
+    (λ c. search needs)
+    (λ c. search needs)
     loop-again
     returns)

@@ -8,21 +8,6 @@ use Rattle.faults.proofs.Cheapest.{cost-is}
 use Rattle.faults.proofs.cost_of.Statement.{statement}
 use Rattle.faults.proofs.cost_of.Tie as tie
 
-after-requires : tie.Need-after-requires
-after-requires c κs = search needs
-
-after-requires-2 : tie.Need-after-requires-2
-after-requires-2 c κs = search needs
-
-entry-at-requires : tie.Need-entry-at-requires
-entry-at-requires c κs = search needs
-
-add-least-of : tie.Need-add-least-of
-add-least-of c = search needs
-
-least-of-requires : tie.Need-least-of-requires
-least-of-requires c κs = search needs
-
 returns : tie.Need-returns
 returns c =
     let start = c .before .before .before .before .before .before in
@@ -36,9 +21,9 @@ pub cost-of-spec : {M : Type 1} → statement M
 cost-of-spec =
     tie.close
     (tie.spec
-    after-requires
-    after-requires-2
-    entry-at-requires
-    add-least-of
-    least-of-requires
+    (λ c κs. search needs)
+    (λ c κs. search needs)
+    (λ c κs. search needs)
+    (λ c. search needs)
+    (λ c κs. search needs)
     returns)

@@ -17,18 +17,6 @@ abbrev μ-loop : tie.MeasureT-loop
 loop-holds : tie.Need-loop-holds Inv-loop μ-loop
 loop-holds c = least-begins
 
-cost-from-requires : tie.Need-cost-from-requires Inv-loop μ-loop
-cost-from-requires c κs = search needs
-
-least-of-requires : tie.Need-least-of-requires Inv-loop μ-loop
-least-of-requires c κs = search needs
-
-add-first : tie.Need-add-first Inv-loop μ-loop
-add-first c = search needs
-
-loop-less : tie.Need-loop-less Inv-loop μ-loop
-loop-less c = search needs
-
 loop-again : tie.Need-loop-again Inv-loop μ-loop
 loop-again c = least-goes-on (c .before .before .before .loop .inv) (c .before .before .loop-test .taken) (c .before .cost-from .ensures) (c .least-of .ensures)
 
@@ -42,9 +30,9 @@ cost-of-kind-spec =
     Inv-loop
     μ-loop
     loop-holds
-    cost-from-requires
-    least-of-requires
-    add-first
-    loop-less
+    (λ c κs. search needs)
+    (λ c κs. search needs)
+    (λ c. search needs)
+    (λ c. search needs)
     loop-again
     returns)

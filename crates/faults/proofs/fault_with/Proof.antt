@@ -15,25 +15,16 @@ Inv-loop square nexts n k set p cost at₀ at = Seeking (costing (automatonOf n 
 abbrev μ-loop : tie.MeasureT-loop
 μ-loop square nexts n k set p cost at₀ at = length (rest (set .bits) k at)
 
-begin-requires : tie.Need-begin-requires Inv-loop μ-loop
-begin-requires c κs = search needs
-
 loop-holds : tie.Need-loop-holds Inv-loop μ-loop
 loop-holds c =
     let start = c .before .before in
     let begun = c .begin .ensures in
     cost-begins (start .args .set .bits) (start .args .k) (start .pre .1 .1 .0) (start .pre .1 .1 .1) (c .begin .result) (begun .0) (begun .1)
 
-step-requires : tie.Need-step-requires Inv-loop μ-loop
-step-requires c κs = search needs
-
 cost-of-requires : tie.Need-cost-of-requires Inv-loop μ-loop
 cost-of-requires c κs =
     let start = c .before .before .before .before in
     (start .pre .0, (start .pre .1 .0, c .step .ensures .1 (start .args .k) (c .before .loop .inv .placed)))
-
-next-requires : tie.Need-next-requires Inv-loop μ-loop
-next-requires c κs = search needs
 
 loop-less : tie.Need-loop-less Inv-loop μ-loop
 loop-less c = seek-less (c .before .before .before .before .loop .inv) (c .next .result) (c .next .ensures .0)
@@ -44,9 +35,6 @@ loop-again c =
     cost-goes-on (start .args .set .bits) (start .args .k) (start .pre .1 .1 .0) (start .pre .1 .1 .1) (c .before .before .before .before .loop .inv)
     (c .before .before .cost-of .ensures) (c .before .before .before .step .ensures .0) (c .before .if1 .taken)
     (c .next .result) (c .next .ensures .0) (c .next .ensures .1)
-
-step-requires-2 : tie.Need-step-requires-2 Inv-loop μ-loop
-step-requires-2 c κs = search needs
 
 returns : tie.Need-returns Inv-loop μ-loop
 returns c =
@@ -63,12 +51,12 @@ fault-with-spec =
     (tie.spec
     Inv-loop
     μ-loop
-    begin-requires
+    (λ c κs. search needs)
     loop-holds
-    step-requires
+    (λ c κs. search needs)
     cost-of-requires
-    next-requires
+    (λ c κs. search needs)
     loop-less
     loop-again
-    step-requires-2
+    (λ c κs. search needs)
     returns)

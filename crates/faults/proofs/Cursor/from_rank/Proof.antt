@@ -20,9 +20,6 @@ loop-holds : tie.Need-loop-holds Inv-loop μ-loop
 loop-holds c = (c .pre, record { first-none = refl; second-none = refl; same = λ k. refl })
 
 -- src/lib.rt:223:16
-has-requires : tie.Need-has-requires Inv-loop μ-loop
-has-requires c κs = search needs
-
 -- src/lib.rt:224:17
 returns : tie.Need-returns Inv-loop μ-loop
 returns c =
@@ -30,13 +27,7 @@ returns c =
     (fresh-held f (c .before .before .if1 .taken) (sym (c .before .has .ensures) ∙ c .if2 .taken), fresh-placed f)
 
 -- src/lib.rt:226:13
-add-at : tie.Need-add-at Inv-loop μ-loop
-add-at c = search needs
-
 -- src/lib.rt:222:9
-loop-less : tie.Need-loop-less Inv-loop μ-loop
-loop-less c = search needs
-
 -- src/lib.rt:222:9
 loop-again : tie.Need-loop-again Inv-loop μ-loop
 loop-again c =
@@ -54,9 +45,9 @@ from-rank-spec =
     Inv-loop
     μ-loop
     loop-holds
-    has-requires
+    (λ c κs. search needs)
     returns
-    add-at
-    loop-less
+    (λ c. search needs)
+    (λ c. search needs)
     loop-again
     returns-2)

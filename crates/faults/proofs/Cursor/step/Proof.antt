@@ -7,12 +7,6 @@ use Rattle.faults.proofs.ByKind.{second-in}
 use Rattle.faults.proofs.Cursor.step.Statement.{statement}
 use Rattle.faults.proofs.Cursor.step.Tie as tie
 
-kind-at-requires : tie.Need-kind-at-requires
-kind-at-requires c κs = search needs
-
-fault-of-requires : tie.Need-fault-of-requires
-fault-of-requires c κs = search needs
-
 returns : tie.Need-returns
 returns c =
     let at = c .before .before .args .self in
@@ -22,4 +16,4 @@ returns c =
     )
 
 pub step-spec : {M : Type 1} → statement M
-step-spec = tie.close (tie.spec kind-at-requires fault-of-requires returns)
+step-spec = tie.close (tie.spec (λ c κs. search needs) (λ c κs. search needs) returns)
