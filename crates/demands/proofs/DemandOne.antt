@@ -17,7 +17,7 @@ use Rattle.monitor.specs.Questions.{tableQuestions, judgeAnswer, question9, que
 use Rattle.collection.specs.Contents.{countOf, collectionQuestions, collectionAnswer}
 use Rattle.classes.specs.Classify.{classList, classifyFigures, classifyAnswer}
 use Rattle.immunity.specs.Findings.{tableFigures, faultAnswer, faultTrace}
-use Rattle.lines.specs.Line.{entryLine, lineAnswer}
+use Rattle.lines.specs.Line.{ruleLine, lineAnswer}
 use Rattle.demands.specs.DemandOne.{FirstNo, Judged, Lent, DemandOne}
 
 -- a refusal is the first no
@@ -84,5 +84,5 @@ demand-one limit body file area =
       collection = asks-judged (collectionQuestions file) (countOf file ∷ []);
       classes = asks-lent (tableQuestions limit body) (classifyFigures m) (classList m) area (statesOf body) (sym (length-values (statesOf body) (class m)));
       faults = λ set d. asks-lent (tableQuestions limit body ++ (question9 set ∷ question10 d ∷ [])) (tableFigures m d set) (faultTrace body set d) area _ refl;
-      line = λ i. asks-lent [] (length (entryLine limit file i) ∷ []) (entryLine limit file i) area _ refl;
+      line = λ rule. asks-lent [] (length (ruleLine limit rule body) ∷ []) (ruleLine limit rule body) area _ refl;
     }

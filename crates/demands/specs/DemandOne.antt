@@ -12,7 +12,7 @@ use Rattle.monitor.specs.Questions.{tableQuestions, judgeAnswer}
 use Rattle.collection.specs.Contents.{countOf, collectionQuestions, collectionAnswer}
 use Rattle.classes.specs.Classify.{classList, classifyAnswer}
 use Rattle.immunity.specs.Findings.{faultAnswer, faultTrace}
-use Rattle.lines.specs.Line.{entryLine, lineAnswer}
+use Rattle.lines.specs.Line.{ruleLine, lineAnswer}
 
 -- every question of the list is answered yes
 abbrev pub AllYes : List Question → Type 0
@@ -52,4 +52,4 @@ pub record DemandOne (limit : ℕ) (body file area : List ℕ) : Type 0 where
   -- the calls that are lent an area: classes, the fault question, a line of the listing
   pub classes : Lent (classifyAnswer limit body (length area)) (classList (monitorOf body)) area
   pub faults : (set d : ℕ) → Lent (faultAnswer limit body set d (length area)) (faultTrace body set d) area
-  pub line : (i : ℕ) → Lent (lineAnswer limit file i (length area)) (entryLine limit file i) area
+  pub line : (rule : ℕ) → Lent (lineAnswer limit rule body (length area)) (ruleLine limit rule body) area

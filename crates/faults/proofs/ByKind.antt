@@ -1,8 +1,18 @@
 -- What every kind has in common, by its rank.
-use mathlib.Core.Path.{_≡_}
-use Prim.Native.Nat.{ℕ, zero, suc, _-_, _≤_, _<_}
+use mathlib.Core.Path.{_≡_, refl}
+use Prim.Native.Nat.{ℕ, zero, suc, _^_, _<_}
 use native.Mathlib.Omega.{arith}
 use Rattle.theory.specs.Faults.{seconds}
+use Rattle.faults.specs.declared.Kind.{Kind}
+use Rattle.faults.specs.declared.Kind.the-variants.{Loss, Corruption, Repeat, Swap}
+use Rattle.faults.specs.Kinds.{rankOf, bitOf}
+
+-- the bit of a kind by its rank
+pub bit-is : (kind : Kind) → bitOf kind ≡ 2 ^ rankOf kind
+bit-is Loss = refl
+bit-is Corruption = refl
+bit-is Repeat = refl
+bit-is Swap = refl
 
 -- a replacement or a neighbour is a symbol
 pub second-in : (rank : ℕ) {k a b : ℕ} → a < k → b < seconds rank k → b < k

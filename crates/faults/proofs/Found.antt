@@ -1,67 +1,46 @@
--- The first fault step of a set that passes a test, looked for by a cursor; and the test that a step costs a given number.
+-- The search for the first fault step that costs what the cheapest does.
 use mathlib.Core.Path.{_≡_, sym, ap, _∙_}
-use mathlib.Core.Bool.{Bool, true, false}
 use mathlib.Core.List.{List, _∷_}
-use mathlib.Core.Logic.{⊎-elim}
 use mathlib.Core.Option.{none, some}
 use Prim.Native.Nat.{ℕ, _<_}
-use native.Mathlib.Nat.{le-refl}
 use native.Mathlib.Omega.{arith}
-use lib.ListN.{length}
 use borrow.Author.Tests.{eq-eqb, ne-eqb}
-use Rattle.theory.specs.Lists.{In, find}
+use Rattle.theory.specs.Lists.{find}
 use Rattle.theory.specs.Automaton.{Automaton}
-use Rattle.theory.specs.Faults.{FaultStep, kinds, steps}
-use Rattle.theory.proofs.Below.{clash, lt-or-le}
+use Rattle.theory.specs.Faults.{FaultStep, steps}
+use Rattle.theory.proofs.Below.{clash}
 use Rattle.theory.proofs.Lists.{none-passes}
 use Rattle.theory.proofs.Faults.{steps-held}
 use Rattle.pairs.specs.Square.{never}
 use Rattle.faults.specs.declared.Cursor.{Cursor}
 use Rattle.faults.specs.Steps.{costOf, costing, Cheapest}
 use Rattle.faults.specs.Rest.{Placed, stepAt, rest}
-use Rattle.faults.proofs.Rest.{rest-end, one-less}
+use Rattle.faults.proofs.Rest.{Seeking, seek, seek-finds, seek-on}
 
--- at a step, and no step before it passes
-pub record Seeking (f : FaultStep → Bool) (set k : ℕ) (at : Cursor) : Type 0 where
-  pub low : at .rank < kinds
-  pub placed : Placed k at
-  pub same : find f (rest set k at) ≡ find f (steps set k)
+-- the cheapest cost, below never, is the cost of a step
+module _ {g : Automaton} {square : List ℕ} {p cost : ℕ} (set k : ℕ) (low : cost < never) (least : Cheapest g square p (steps set k) cost) where
+  some-costs : find (costing g square p cost) (steps set k) ≡ none → ⊥
+  some-costs e =
+      let r = least .attained low in
+      clash (eq-eqb (costOf g square p (r .0)) cost (r .2)) (none-passes (costing g square p cost) (steps set k) e (r .0) (r .1))
 
-module _ {f : FaultStep → Bool} {set k : ℕ} where
-  -- where some step of the set passes, the end is not reached
-  pub seek : (find f (steps set k) ≡ none → ⊥) → (at : Cursor) → Placed k at → find f (rest set k at) ≡ find f (steps set k) → Seeking f set k at
-  unfolding find
-  seek passes at p e =
-      record { low = ⊎-elim (λ l. l) (λ l. absurd (passes (sym e ∙ ap (find f) (rest-end set k at l)))) (lt-or-le (at .rank) kinds); placed = p; same = e }
+  some-symbol : 0 < k
+  some-symbol = (let r = least .attained low in omega (arith, steps-held set k (r .0) (r .1) .first-in))
 
-  module _ {at : Cursor} (s : Seeking f set k at) where
-    pub seek-finds : f (stepAt at) ≡ true → find f (steps set k) ≡ some (stepAt at)
-    unfolding find
-    seek-finds e = sym (s .same) ∙ ap (find f) (one-less set k at (s .low) (s .placed)) ∙ rw e
+  pub cost-begins : (at : Cursor) → ((k : ℕ) → 0 < k → rest set k at ≡ steps set k) → ((k : ℕ) → 0 < k → Placed k at)
+      → Seeking (costing g square p cost) set k at
+  cost-begins at e placed = seek some-costs at (placed k some-symbol) (ap (find (costing g square p cost)) (e k some-symbol))
 
-    module _ (to : Cursor) (next : rest set k at ≡ stepAt at ∷ rest set k to) where
-      pub seek-on : (find f (steps set k) ≡ none → ⊥) → Placed k to → f (stepAt at) ≡ false → Seeking f set k to
-      unfolding find
-      seek-on passes p e = seek passes to p (sym (ap (find f) next ∙ rw e) ∙ s .same)
+  -- x is the cost of the step s that the code has made for the one at the cursor
+  module _ {at : Cursor} {x : ℕ} {s : FaultStep} (here : Seeking (costing g square p cost) set k at)
+      (is-cost : x ≡ costOf g square p s) (is-step : s ≡ stepAt at) where
+    costs : x ≡ costOf g square p (stepAt at)
+    costs = is-cost ∙ ap (costOf g square p) is-step
 
-      pub seek-less : length (rest set k to) < length (rest set k at)
-      seek-less = rw next (le-refl _)
+    pub cost-goes-on : (x ≡ cost → ⊥) → (to : Cursor) → rest set k at ≡ stepAt at ∷ rest set k to → Placed k to → Seeking (costing g square p cost) set k to
+    cost-goes-on n to next placed =
+        seek-on here to next some-costs placed (ne-eqb (costOf g square p (stepAt at)) cost (λ e. n (costs ∙ e)))
 
--- ---- a step that costs this
-
-module _ (g : Automaton) (square : List ℕ) (p cost : ℕ) where
-  -- x is the cost of the step s that the code has made for the step t
-  module _ {x : ℕ} {s t : FaultStep} (is-cost : x ≡ costOf g square p s) (is-step : s ≡ t) where
-    pub costs-this : x ≡ cost → costing g square p cost t ≡ true
-    costs-this e = eq-eqb (costOf g square p t) cost (sym (is-cost ∙ ap (costOf g square p) is-step) ∙ e)
-
-    pub costs-other : (x ≡ cost → ⊥) → costing g square p cost t ≡ false
-    costs-other n = ne-eqb (costOf g square p t) cost (λ e. n (is-cost ∙ ap (costOf g square p) is-step ∙ e))
-
-  -- the cheapest cost, below never, is the cost of a step
-  module _ (set k : ℕ) (low : cost < never) (least : Cheapest g square p (steps set k) cost) where
-    pub some-costs : find (costing g square p cost) (steps set k) ≡ none → ⊥
-    some-costs e = (let r = least .attained low in clash (eq-eqb (costOf g square p (r .0)) cost (r .2)) (none-passes (costing g square p cost) (steps set k) e (r .0) (r .1)))
-
-    pub some-symbol : 0 < k
-    some-symbol = (let r = least .attained low in omega (arith, steps-held set k (r .0) (r .1) .first-in))
+    pub cost-found : x ≡ cost → {t : FaultStep} → t ≡ stepAt at → find (costing g square p cost) (steps set k) ≡ some t
+    cost-found e {t} same =
+        seek-finds here (eq-eqb (costOf g square p (stepAt at)) cost (sym costs ∙ e)) ∙ ap (λ (u : FaultStep). some u) (sym same)

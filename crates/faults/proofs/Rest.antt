@@ -1,20 +1,20 @@
--- The fault steps from a cursor on: all of them at the beginning, one less at the next, none behind the last.
-use mathlib.Core.Path.{_≡_, refl, sym, ap, ap₂, _∙_, subst}
-use mathlib.Core.Bool.{Bool, true, false, cond}
+-- The fault steps from a cursor on: all of them at the beginning, one less at the next, none behind the last; and the search for the first that passes a test.
+use mathlib.Core.Path.{_≡_, refl, sym, ap, _∙_}
+use mathlib.Core.Bool.{Bool, true, false}
 use mathlib.Core.List.{List, [], _∷_, _++_, append-assoc, append-nil}
 use mathlib.Core.Logic.{⊎-elim}
+use mathlib.Core.Option.{none, some}
 use Prim.Native.Nat.{ℕ, zero, suc, _+_, _-_, _≤_, _<_}
 use native.Mathlib.Nat.{le-refl}
 use native.Mathlib.Numerals.{add-one}
 use native.Mathlib.Omega.{arith}
-use lib.Dec.{ltb}
+use lib.ListN.{length}
 use borrow.Author.Tests.{lt-ltb, le-ltb}
-use Rattle.theory.specs.Below.{first}
-use Rattle.theory.specs.Lists.{each}
-use Rattle.theory.specs.Faults.{FaultStep, kinds, stepOf, seconds, holds, stepsOfKind, steps}
-use Rattle.theory.proofs.Below.{lt-or-le, first-le, first-ge, first-below, first-here}
+use Rattle.theory.specs.Lists.{find, each}
+use Rattle.theory.specs.Faults.{FaultStep, kinds, seconds, holds, steps}
+use Rattle.theory.proofs.Below.{lt-or-le}
 use Rattle.faults.specs.declared.Cursor.{Cursor}
-use Rattle.faults.specs.Rest.{stepWith, stepsFrom, stepsIfHeld, onward, between, Placed, stepAt, rest}
+use Rattle.faults.specs.Rest.{stepWith, stepsFrom, stepsIfHeld, onward, between, stepsOnward, Placed, stepAt, rest}
 use Rattle.faults.proofs.ByKind.{second-some}
 
 -- ---- the lists of numbers from one on
@@ -45,33 +45,25 @@ module _ {A : Type 0} (f : ℕ → List A) where
   unfolding onward
   between-none {i} {n} l = (let e : n - i ≡ 0 = omega arith in rw e)
 
-  -- empty lists add nothing
-  skips : (c : ℕ) {i n : ℕ} → i + c ≤ n → ((j : ℕ) → i ≤ j → j < i + c → f j ≡ []) → between i n f ≡ between (i + c) n f
-  skips zero {i} {n} l none = (let e : i + 0 ≡ i = omega arith in rw e)
-  skips (suc c) {i} {n} l none =
-      let e : i + 1 + c ≡ i + suc c = omega arith in
-      between-first (omega arith)
-      ∙ rw (none i (le-refl i) (omega arith)) (skips c (omega arith) (λ j g h. none j (omega arith) (omega arith)))
-      ∙ ap (λ (j : ℕ). between j n f) e
+-- ---- the parts of the rest
 
-  pub between-skips : {i j n : ℕ} → i ≤ j → j ≤ n → ((m : ℕ) → i ≤ m → m < j → f m ≡ []) → between i n f ≡ between j n f
-  between-skips {i} {j} {n} l h none =
-      let e : i + (j - i) ≡ j = omega arith in
-      skips (j - i) (omega arith) (λ m g u. none m g (omega arith)) ∙ ap (λ (m : ℕ). between m n f) e
+module _ (k : ℕ) where
+  abbrev laterSymbols : ℕ → ℕ → List FaultStep
+  laterSymbols rank a = between (a + 1) k (stepsFrom k rank)
 
--- ---- the cursor
+  -- from b on at symbol a, and the later symbols
+  abbrev fromSymbol : ℕ → ℕ → ℕ → List FaultStep
+  fromSymbol rank a b = between b (seconds rank k) (stepWith rank a) ++ laterSymbols rank a
 
-abbrev place : ℕ → ℕ → ℕ → Cursor
-place rank a b = record { rank = rank; first = a; second = b }
+  opened : (rank : ℕ) {a : ℕ} → a < k → between a k (stepsFrom k rank) ≡ fromSymbol rank a 0
+  opened rank {a} l =
+      between-first (stepsFrom k rank) l ∙ ap (λ (xs : List FaultStep). xs ++ laterSymbols rank a) (each-between (stepWith rank a) (seconds rank k))
 
 module _ (set k : ℕ) where
-  abbrev laterKinds : ℕ → List FaultStep
-  laterKinds rank = between (rank + 1) kinds (stepsIfHeld set k)
+  abbrev laid : Cursor → List FaultStep
+  laid at = fromSymbol k (at .rank) (at .first) (at .second) ++ stepsOnward set k (at .rank + 1)
 
-  abbrev fromSymbol : ℕ → ℕ → ℕ → List FaultStep
-  fromSymbol rank a b = between b (seconds rank k) (stepWith rank a) ++ between (a + 1) k (stepsFrom k rank)
-
-  rest-is : (at : Cursor) → at .rank < kinds → rest set k at ≡ fromSymbol (at .rank) (at .first) (at .second) ++ laterKinds (at .rank)
+  rest-is : (at : Cursor) → at .rank < kinds → rest set k at ≡ laid at
   unfolding rest
   rest-is at l = rw (lt-ltb (at .rank) kinds l)
 
@@ -79,50 +71,89 @@ module _ (set k : ℕ) where
   unfolding rest
   rest-end at l = rw (le-ltb (at .rank) kinds l)
 
-  -- the steps of a kind from a symbol on begin with the symbol's first
-  opened : (rank : ℕ) {a : ℕ} → a < k → between a k (stepsFrom k rank) ≡ fromSymbol rank a 0
-  opened rank {a} l = between-first (stepsFrom k rank) l ∙ ap (λ (xs : List FaultStep). xs ++ between (a + 1) k (stepsFrom k rank)) (each-between (stepWith rank a) (seconds rank k))
-
-  -- all steps of the kinds from a rank on
-  pub rest-from : {rank r : ℕ} → rank ≤ kinds → 0 < k → r ≡ first (holds set) rank (kinds - rank)
-      → rest set k (record { rank = r; first = 0; second = 0 }) ≡ between rank kinds (stepsIfHeld set k)
-  rest-from {rank} {r} l some e = ⊎-elim here behind (lt-or-le r kinds) ∙ sym passed
-    where
-      passed : between rank kinds (stepsIfHeld set k) ≡ between r kinds (stepsIfHeld set k)
-      passed =
-          between-skips (stepsIfHeld set k) (omega (arith, first-ge (holds set) rank (kinds - rank))) (omega (arith, first-le (holds set) rank (kinds - rank)))
-          (λ m g h. rw (first-below (holds set) rank (kinds - rank) m g (omega arith)))
-
-      here : r < kinds → rest set k (place r 0 0) ≡ between r kinds (stepsIfHeld set k)
-      here h =
-          let held : holds set r ≡ true = ap (holds set) e ∙ first-here (holds set) rank (kinds - rank) (omega arith) in
-          let of : stepsIfHeld set k r ≡ fromSymbol r 0 0 = rw held (each-between (stepsFrom k r) k ∙ opened r some) in
-          rest-is (place r 0 0) h ∙ ap (λ (xs : List FaultStep). xs ++ laterKinds r) (sym of) ∙ sym (between-first (stepsIfHeld set k) h)
-
-      behind : kinds ≤ r → rest set k (place r 0 0) ≡ between r kinds (stepsIfHeld set k)
-      behind h = rest-end (place r 0 0) h ∙ sym (between-none (stepsIfHeld set k) h)
-
   -- ---- the next step
 
   module _ (at : Cursor) (low : at .rank < kinds) (placed : Placed k at) where
-    -- the step at the cursor, and what is left of its symbol
-    pub one-less : rest set k at ≡ stepAt at ∷ ((between (at .second + 1) (seconds (at .rank) k) (stepWith (at .rank) (at .first)) ++ between (at .first + 1) k (stepsFrom k (at .rank))) ++ laterKinds (at .rank))
+    abbrev laterKinds : List FaultStep
+    laterKinds = stepsOnward set k (at .rank + 1)
+
+    -- one step at the cursor, whatever comes behind it
+    one-less : rest set k at ≡ stepAt at ∷ (fromSymbol k (at .rank) (at .first) (at .second + 1) ++ laterKinds)
     one-less =
         rest-is at low
-        ∙ ap (λ (xs : List FaultStep). (xs ++ between (at .first + 1) k (stepsFrom k (at .rank))) ++ laterKinds (at .rank)) (between-first (stepWith (at .rank) (at .first)) (placed .second-in))
+        ∙ ap (λ (xs : List FaultStep). (xs ++ laterSymbols k (at .rank) (at .first)) ++ laterKinds)
+        (between-first (stepWith (at .rank) (at .first)) (placed .second-in))
+
+    moved : (to : Cursor) → to .rank < kinds → stepAt at ∷ laid to ≡ stepAt at ∷ rest set k to
+    moved to l = ap (λ (xs : List FaultStep). stepAt at ∷ xs) (sym (rest-is to l))
 
     pub next-second : rest set k at ≡ stepAt at ∷ rest set k (record { rank = at .rank; first = at .first; second = at .second + 1 })
-    next-second = one-less ∙ ap (λ (xs : List FaultStep). stepAt at ∷ xs) (sym (rest-is (place (at .rank) (at .first) (at .second + 1)) low))
+    next-second = one-less ∙ moved (record { rank = at .rank; first = at .first; second = at .second + 1 }) low
 
     module _ (last : seconds (at .rank) k ≤ at .second + 1) where
-      symbol-done : rest set k at ≡ stepAt at ∷ (between (at .first + 1) k (stepsFrom k (at .rank)) ++ laterKinds (at .rank))
+      symbol-done : rest set k at ≡ stepAt at ∷ (laterSymbols k (at .rank) (at .first) ++ laterKinds)
       symbol-done = one-less ∙ rw (between-none (stepWith (at .rank) (at .first)) last)
 
       pub next-first : at .first + 1 < k → rest set k at ≡ stepAt at ∷ rest set k (record { rank = at .rank; first = at .first + 1; second = 0 })
       next-first l =
           symbol-done
-          ∙ ap (λ (xs : List FaultStep). stepAt at ∷ (xs ++ laterKinds (at .rank))) (opened (at .rank) l)
-          ∙ ap (λ (xs : List FaultStep). stepAt at ∷ xs) (sym (rest-is (place (at .rank) (at .first + 1) 0) low))
+          ∙ ap (λ (xs : List FaultStep). stepAt at ∷ (xs ++ laterKinds)) (opened k (at .rank) l)
+          ∙ moved (record { rank = at .rank; first = at .first + 1; second = 0 }) low
 
-      pub next-rank : k ≤ at .first + 1 → (r : Cursor) → rest set k r ≡ laterKinds (at .rank) → rest set k at ≡ stepAt at ∷ rest set k r
+      pub next-rank : k ≤ at .first + 1 → (r : Cursor) → rest set k r ≡ stepsOnward set k (at .rank + 1) → rest set k at ≡ stepAt at ∷ rest set k r
       next-rank l r e = symbol-done ∙ rw (between-none (stepsFrom k (at .rank)) l, e)
+
+-- ---- the first step of the kinds from a rank on
+
+-- the set lacks the kinds passed, and no symbol is passed
+pub record Fresh (set rank : ℕ) (at : Cursor) : Type 0 where
+  pub first-none : at .first ≡ 0
+  pub second-none : at .second ≡ 0
+  pub same : (k : ℕ) → stepsOnward set k (at .rank) ≡ stepsOnward set k rank
+
+module _ {set rank : ℕ} {at : Cursor} (f : Fresh set rank at) where
+  pub fresh-placed : (k : ℕ) → 0 < k → Placed k at
+  fresh-placed k h = rw (f .first-none, f .second-none) (record { first-in = h; second-in = second-some (at .rank) h })
+
+  pub fresh-held : at .rank < kinds → holds set (at .rank) ≡ true → (k : ℕ) → 0 < k → rest set k at ≡ stepsOnward set k rank
+  fresh-held l e k h =
+      let of : stepsIfHeld set k (at .rank) ≡ fromSymbol k (at .rank) 0 0 = rw e (each-between (stepsFrom k (at .rank)) k ∙ opened k (at .rank) h) in
+      rest-is set k at l
+      ∙ rw (f .first-none, f .second-none) (ap (λ (xs : List FaultStep). xs ++ stepsOnward set k (at .rank + 1)) (sym of))
+      ∙ sym (between-first (stepsIfHeld set k) l)
+      ∙ f .same k
+
+  pub fresh-lacked : at .rank < kinds → holds set (at .rank) ≡ false → Fresh set rank (record { rank = at .rank + 1; first = at .first; second = at .second })
+  fresh-lacked l e =
+      record { first-none = f .first-none; second-none = f .second-none; same = λ k. sym (between-first (stepsIfHeld set k) l ∙ rw e) ∙ f .same k }
+
+  pub fresh-end : kinds ≤ at .rank → (k : ℕ) → rest set k at ≡ stepsOnward set k rank
+  fresh-end l k = rest-end set k at l ∙ sym (between-none (stepsIfHeld set k) l) ∙ f .same k
+
+-- ---- the first step that passes a test
+
+-- at a step, and no step before it passes
+pub record Seeking (f : FaultStep → Bool) (set k : ℕ) (at : Cursor) : Type 0 where
+  pub low : at .rank < kinds
+  pub placed : Placed k at
+  pub same : find f (rest set k at) ≡ find f (steps set k)
+
+module _ {f : FaultStep → Bool} {set k : ℕ} where
+  -- where some step of the set passes, the end is not reached
+  pub seek : (find f (steps set k) ≡ none → ⊥) → (at : Cursor) → Placed k at → find f (rest set k at) ≡ find f (steps set k) → Seeking f set k at
+  unfolding find
+  seek passes at p e =
+      record { low = ⊎-elim (λ l. l) (λ l. absurd (passes (sym e ∙ ap (find f) (rest-end set k at l)))) (lt-or-le (at .rank) kinds); placed = p; same = e }
+
+  module _ {at : Cursor} (s : Seeking f set k at) where
+    pub seek-finds : f (stepAt at) ≡ true → find f (steps set k) ≡ some (stepAt at)
+    unfolding find
+    seek-finds e = sym (s .same) ∙ ap (find f) (one-less set k at (s .low) (s .placed)) ∙ rw e
+
+    module _ (to : Cursor) (next : rest set k at ≡ stepAt at ∷ rest set k to) where
+      pub seek-on : (find f (steps set k) ≡ none → ⊥) → Placed k to → f (stepAt at) ≡ false → Seeking f set k to
+      unfolding find
+      seek-on passes p e = seek passes to p (sym (ap (find f) next ∙ rw e) ∙ s .same)
+
+      pub seek-less : length (rest set k to) < length (rest set k at)
+      seek-less = rw next (le-refl _)

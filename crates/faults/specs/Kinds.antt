@@ -1,5 +1,5 @@
 -- The kinds of fault as the code names them.
-use Prim.Native.Nat.{ℕ, _^_}
+use Prim.Native.Nat.{ℕ}
 use Rattle.faults.specs.declared.Kind.{Kind}
 use Rattle.faults.specs.declared.Kind.the-variants.{Loss, Corruption, Repeat, Swap}
 
@@ -12,4 +12,7 @@ rankOf Swap = 3
 
 -- "Each fault has its fixed bit: loss 1, corruption 2, repeat 4, swap 8"
 abbrev pub bitOf : Kind → ℕ
-bitOf kind = 2 ^ rankOf kind
+bitOf Loss = 1
+bitOf Corruption = 2
+bitOf Repeat = 4
+bitOf Swap = 8

@@ -33,6 +33,10 @@ module _ {A : Type 0} where
   abbrev pub between : ℕ → ℕ → (ℕ → List A) → List A
   between i n f = onward (n - i) i f
 
+-- the fault steps of the set from this rank on
+abbrev pub stepsOnward : ℕ → ℕ → ℕ → List FaultStep
+stepsOnward set k rank = between rank kinds (stepsIfHeld set k)
+
 -- ---- from a cursor on
 
 -- the symbols at a cursor are among k
@@ -44,11 +48,11 @@ pub record Placed (k : ℕ) (at : Cursor) : Type 0 where
 abbrev pub stepAt : Cursor → FaultStep
 stepAt at = stepOf (at .rank) (at .first) (at .second)
 
--- with the kind and first symbol at the cursor, with the kind and a later symbol, and of the later kinds
+-- the fault steps from a cursor on: at its symbol, at later symbols of its kind, of later kinds; behind them none
 unfoldable pub rest : ℕ → ℕ → Cursor → List FaultStep
 rest set k at =
     cond (ltb (at .rank) kinds)
     ((between (at .second) (seconds (at .rank) k) (stepWith (at .rank) (at .first))
     ++ between (at .first + 1) k (stepsFrom k (at .rank)))
-    ++ between (at .rank + 1) kinds (stepsIfHeld set k))
+    ++ stepsOnward set k (at .rank + 1))
     []

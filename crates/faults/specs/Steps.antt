@@ -20,7 +20,12 @@ traceOf s = take (s .count) (s .first ∷ s .second ∷ [])
 
 -- the fault step that a fault stands for
 abbrev pub stepFor : Fault → FaultStep
-stepFor f = record { kind = bitOf (f .kind); sent = traceOf (f .sent); received = traceOf (f .received); replacement = f .replacement }
+stepFor f = record {
+  kind = bitOf (f .kind);
+  sent = traceOf (f .sent);
+  received = traceOf (f .received);
+  replacement = f .replacement;
+}
 
 -- at most two symbols, each below k
 pub record Inside (k : ℕ) (s : Symbols) : Type 0 where

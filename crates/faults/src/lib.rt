@@ -5,11 +5,10 @@ use theory::STATE_LIMIT;
 ghost use mathlib.Core.Path.{_≡_};
 ghost use mathlib.Core.List.{_∷_};
 ghost use mathlib.Core.Option.{some};
-ghost use Prim.Native.Nat.{ℕ, _+_, _-_, _≤_, _<_};
+ghost use Prim.Native.Nat.{ℕ, _+_, _≤_, _<_};
 ghost use lib.ListN.{length};
 ghost use lib.Seq.{sets};
 ghost use lib.Bits.{bitOr};
-ghost use Rattle.theory.specs.Below.{first};
 ghost use Rattle.theory.specs.Lists.{find};
 ghost use Rattle.theory.specs.Automaton.{run};
 ghost use Rattle.theory.specs.Monitor.{stateLimit, symbolLimit};
@@ -18,7 +17,7 @@ ghost use Rattle.monitor.specs.Format.{Rows, graph};
 ghost use Rattle.pairs.specs.Square.{never};
 ghost use Rattle.faults.specs.Kinds.{rankOf, bitOf};
 ghost use Rattle.faults.specs.Steps.{traceOf, stepFor, Inside, Ranged, costOf, costing, Cheapest, Costs};
-ghost use Rattle.faults.specs.Rest.{stepsFrom, stepsIfHeld, between, Placed, stepAt, rest};
+ghost use Rattle.faults.specs.Rest.{stepsFrom, stepsIfHeld, stepsOnward, Placed, stepAt, rest};
 
 // A kind of fault.
 pub enum Kind {
@@ -52,7 +51,7 @@ fn has_bit(number: usize, rank: usize) -> bool
     (number >> rank) & 1 == 1
 }
 
-// A set of faults: the sum of their bits. It is built by adding kinds, so that it has no bit of no fault.
+// A set of faults: the sum of their bits. It is built by adding kinds, so that it has no other bit.
 pub struct FaultSet {
     bits: usize,
 }
@@ -90,7 +89,8 @@ impl FaultSet {
     pub fn with(mut self, kind: Kind) -> Self
         ensures { λ r. ⌜ r .bits ≡ bitOr (self .bits) (bitOf kind) ⌝ }
     {
-        self.bits = self.bits | Self::bit_of(kind);
+        let bit = Self::bit_of(kind);
+        self.bits = self.bits | bit;
         self
     }
 
@@ -124,21 +124,6 @@ impl FaultSet {
     {
         has_bit(self.bits, rank)
     }
-
-    // The first rank from this one on whose kind the set has, or KINDS.
-    fn held_from(self, rank: usize) -> usize
-        requires { ⌜ rank ≤ kinds ⌝ }
-        ensures { λ r. ⌜ r ≡ first (holds (self .bits)) rank (kinds - rank) ⌝ }
-    {
-        let mut at = rank;
-        while at < KINDS {
-            if self.has(at) {
-                return at;
-            }
-            at += 1;
-        }
-        at
-    }
 }
 
 // At most two symbols, one after the other. What stands behind the count is not looked at.
@@ -160,8 +145,8 @@ impl Symbols {
     }
 }
 
-// A fault step: its kind, the symbols it covers, the symbols delivered in their place, and the replacement (0 except for
-// corruption).
+// A fault step: its kind, the symbols it covers, the symbols delivered in their place, and the replacement (0 except
+// for corruption).
 pub struct Fault {
     pub kind: Kind,
     pub sent: Symbols,
@@ -215,8 +200,8 @@ pub fn fault_of(kind: Kind, a: usize, b: usize) -> Fault
     }
 }
 
-// A place among the fault steps of a set, in the written order: the rank of the kind, the first symbol, and the replacement
-// or neighbour. Behind the last step the rank is KINDS.
+// A place among the fault steps of a set, in the written order: the rank of the kind, the first symbol, and the
+// replacement or neighbour. Behind the last step the rank is KINDS.
 pub struct Cursor {
     rank: usize,
     first: usize,
@@ -227,14 +212,21 @@ impl Cursor {
     // At the first fault step of the kinds from this rank on.
     fn from_rank(set: FaultSet, rank: usize) -> Self
         requires { ⌜ rank ≤ kinds ⌝ }
-        ensures rest { λ r. ⌜ ((k : ℕ) → 0 < k → rest (set .bits) k r ≡ between rank kinds (stepsIfHeld (set .bits) k)) ⌝ }
+        ensures rest { λ r. ⌜ ((k : ℕ) → 0 < k → rest (set .bits) k r ≡ stepsOnward (set .bits) k rank) ⌝ }
         ensures placed { λ r. ⌜ ((k : ℕ) → 0 < k → Placed k r) ⌝ }
     {
-        Self {
-            rank: set.held_from(rank),
+        let mut at = Self {
+            rank,
             first: 0,
             second: 0,
+        };
+        while at.rank < KINDS {
+            if set.has(at.rank) {
+                return at;
+            }
+            at.rank += 1;
         }
+        at
     }
 
     // At the first fault step of the set.

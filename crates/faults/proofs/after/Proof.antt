@@ -1,7 +1,7 @@
 -- `after` meets its contract: no symbol, one, or two.
 use borrow.Author.Needs.{needs}
 use Rattle.theory.specs.Automaton.{run}
-use Rattle.monitor.specs.Format.{automatonOf}
+use Rattle.monitor.specs.Format.{graph}
 use Rattle.faults.proofs.AtMostTwo.{count-two, run-one, run-two}
 use Rattle.faults.proofs.after.Statement.{statement}
 use Rattle.faults.proofs.after.Tie as tie
@@ -10,25 +10,20 @@ returns : tie.Need-returns
 unfolding run
 returns c = (rw (c .if1 .taken), c .before .before .before .pre .1 .0)
 
-successor-requires : tie.Need-successor-requires
-successor-requires c κs = search needs
-
 returns-2 : tie.Need-returns-2
 returns-2 c =
     let a = c .before .before .before .before .before .before .args in
     let x = c .before .before .successor .ensures in
-    (rw (c .if2 .taken) (run-one (automatonOf (a .n) (a .k) (a .nexts .now)) (x .0)), x .1)
-
-successor-requires-2 : tie.Need-successor-requires-2
-successor-requires-2 c κs = search needs
+    (rw (c .if2 .taken) (run-one (graph (a .n) (a .k) (a .nexts)) (x .0)), x .1)
 
 returns-3 : tie.Need-returns-3
 returns-3 c =
     let start = c .before .before .before .before .before .before .before in
     let a = start .args in
     let y = c .successor2 .ensures in
-    (rw (count-two (start .pre .1 .1) (c .before .before .before .before .if1 .left) (c .before .if2 .left)) (run-two (automatonOf (a .n) (a .k) (a .nexts .now)) (c .before .before .before .successor .ensures .0) (y .0)), y .1)
+    let two = count-two (start .pre .1 .1) (c .before .before .before .before .if1 .left) (c .before .if2 .left) in
+    (rw two (run-two (graph (a .n) (a .k) (a .nexts)) (c .before .before .before .successor .ensures .0) (y .0)), y .1)
 
 pub after-spec : {M : Type 1} → statement M
 after-spec =
-    tie.close (tie.spec returns successor-requires returns-2 successor-requires-2 returns-3)
+    tie.close (tie.spec returns (λ c κs. search needs) returns-2 (λ c κs. search needs) returns-3)

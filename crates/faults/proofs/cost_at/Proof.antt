@@ -1,47 +1,29 @@
 -- `cost_at` meets its contract: the least cost of the kinds passed.
-use Prim.Native.Nat.{_≤_, _-_}
+use Prim.Native.Nat.{_-_}
 use borrow.Author.Needs.{needs}
-use Rattle.theory.specs.Lists.{each}
 use Rattle.theory.specs.Faults.{kinds, steps}
 use Rattle.monitor.specs.Format.{automatonOf}
-use Rattle.faults.specs.Steps.{Cheapest}
 use Rattle.faults.specs.Rest.{stepsIfHeld}
-use Rattle.faults.proofs.Cheapest.{cheapest-begin, cheapest-turn, cheapest-end}
+use Rattle.faults.proofs.Cheapest.{Least, least-begins, least-goes-on, least-ends}
 use Rattle.faults.proofs.cost_at.Statement.{statement}
 use Rattle.faults.proofs.cost_at.Tie as tie
 
 abbrev Inv-loop : tie.InvT-loop
-Inv-loop square nexts n k set p least₀ rank₀ least rank = (rank ≤ kinds) × Cheapest (automatonOf n k nexts) square p (each rank (stepsIfHeld (set .bits) k)) least
+Inv-loop square nexts n k set p least₀ rank₀ least rank = Least (automatonOf n k nexts) square p (stepsIfHeld (set .bits) k) kinds rank least
 
 abbrev μ-loop : tie.MeasureT-loop
 μ-loop square nexts n k set p least₀ rank₀ least rank = kinds - rank
 
 loop-holds : tie.Need-loop-holds Inv-loop μ-loop
-loop-holds c = (let a = c .before .args in (search needs, cheapest-begin (stepsIfHeld (a .set .bits) (a .k))))
-
-cost-if-held-requires : tie.Need-cost-if-held-requires Inv-loop μ-loop
-cost-if-held-requires c κs = search needs
-
-least-of-requires : tie.Need-least-of-requires Inv-loop μ-loop
-least-of-requires c κs = search needs
-
-add-rank : tie.Need-add-rank Inv-loop μ-loop
-add-rank c = search needs
-
-loop-less : tie.Need-loop-less Inv-loop μ-loop
-loop-less c = search needs
+loop-holds c = least-begins
 
 loop-again : tie.Need-loop-again Inv-loop μ-loop
 loop-again c =
-    let a = c .before .before .before .before .before .args in
-    (search needs, cheapest-turn (stepsIfHeld (a .set .bits) (a .k)) (c .before .before .before .loop .inv .1) (c .before .cost-if-held .ensures) (c .least-of .ensures))
+    least-goes-on (c .before .before .before .loop .inv) (c .before .before .loop-test .taken) (c .before .cost-if-held .ensures) (c .least-of .ensures)
 
 returns : tie.Need-returns Inv-loop μ-loop
 unfolding steps
-returns c =
-    let a = c .before .before .before .args in
-    let at = c .before .loop in
-    cheapest-end (stepsIfHeld (a .set .bits) (a .k)) (at .inv .1) (at .inv .0) (c .loop-test .left)
+returns c = least-ends (c .before .loop .inv) (c .loop-test .left)
 
 pub cost-at-spec : {M : Type 1} → statement M
 cost-at-spec =
@@ -50,9 +32,9 @@ cost-at-spec =
     Inv-loop
     μ-loop
     loop-holds
-    cost-if-held-requires
-    least-of-requires
-    add-rank
-    loop-less
+    (λ c κs. search needs)
+    (λ c κs. search needs)
+    (λ c. search needs)
+    (λ c. search needs)
     loop-again
     returns)

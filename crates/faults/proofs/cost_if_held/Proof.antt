@@ -5,15 +5,6 @@ use Rattle.faults.proofs.Cheapest.{cheapest-none}
 use Rattle.faults.proofs.cost_if_held.Statement.{statement}
 use Rattle.faults.proofs.cost_if_held.Tie as tie
 
-has-requires : tie.Need-has-requires
-has-requires c κs = search needs
-
-kind-at-requires : tie.Need-kind-at-requires
-kind-at-requires c κs = search needs
-
-cost-of-kind-requires : tie.Need-cost-of-kind-requires
-cost-of-kind-requires c κs = search needs
-
 returns : tie.Need-returns
 returns c = rw (sym (c .before .before .before .has .ensures) ∙ c .before .before .if1 .taken) (rw (c .before .kind-at .ensures) at (c .cost-of-kind .ensures))
 
@@ -23,4 +14,4 @@ returns-2 c = rw (sym (c .before .has .ensures) ∙ c .if1 .left) cheapest-none
 pub cost-if-held-spec : {M : Type 1} → statement M
 cost-if-held-spec =
     tie.close
-    (tie.spec has-requires kind-at-requires cost-of-kind-requires returns returns-2)
+    (tie.spec (λ c κs. search needs) (λ c κs. search needs) (λ c κs. search needs) returns returns-2)

@@ -1,46 +1,27 @@
 -- `cost_of_kind` meets its contract: the least cost of the first symbols passed.
-use Prim.Native.Nat.{_≤_, _-_}
+use Prim.Native.Nat.{_-_}
 use borrow.Author.Needs.{needs}
-use Rattle.theory.specs.Lists.{each}
 use Rattle.monitor.specs.Format.{automatonOf}
 use Rattle.faults.specs.Kinds.{rankOf}
-use Rattle.faults.specs.Steps.{Cheapest}
 use Rattle.faults.specs.Rest.{stepsFrom}
-use Rattle.faults.proofs.Cheapest.{cheapest-begin, cheapest-turn, cheapest-end}
+use Rattle.faults.proofs.Cheapest.{Least, least-begins, least-goes-on, least-ends}
 use Rattle.faults.proofs.cost_of_kind.Statement.{statement}
 use Rattle.faults.proofs.cost_of_kind.Tie as tie
 
 abbrev Inv-loop : tie.InvT-loop
-Inv-loop square nexts n k p kind least₀ first₀ least first = (first ≤ k) × Cheapest (automatonOf n k nexts) square p (each first (stepsFrom k (rankOf kind))) least
+Inv-loop square nexts n k p kind least₀ first₀ least first = Least (automatonOf n k nexts) square p (stepsFrom k (rankOf kind)) k first least
 
 abbrev μ-loop : tie.MeasureT-loop
 μ-loop square nexts n k p kind least₀ first₀ least first = k - first
 
 loop-holds : tie.Need-loop-holds Inv-loop μ-loop
-loop-holds c = (let a = c .before .args in (search needs, cheapest-begin (stepsFrom (a .k) (rankOf (a .kind)))))
-
-cost-from-requires : tie.Need-cost-from-requires Inv-loop μ-loop
-cost-from-requires c κs = search needs
-
-least-of-requires : tie.Need-least-of-requires Inv-loop μ-loop
-least-of-requires c κs = search needs
-
-add-first : tie.Need-add-first Inv-loop μ-loop
-add-first c = search needs
-
-loop-less : tie.Need-loop-less Inv-loop μ-loop
-loop-less c = search needs
+loop-holds c = least-begins
 
 loop-again : tie.Need-loop-again Inv-loop μ-loop
-loop-again c =
-    let a = c .before .before .before .before .before .args in
-    (search needs, cheapest-turn (stepsFrom (a .k) (rankOf (a .kind))) (c .before .before .before .loop .inv .1) (c .before .cost-from .ensures) (c .least-of .ensures))
+loop-again c = least-goes-on (c .before .before .before .loop .inv) (c .before .before .loop-test .taken) (c .before .cost-from .ensures) (c .least-of .ensures)
 
 returns : tie.Need-returns Inv-loop μ-loop
-returns c =
-    let a = c .before .before .before .args in
-    let at = c .before .loop in
-    cheapest-end (stepsFrom (a .k) (rankOf (a .kind))) (at .inv .1) (at .inv .0) (c .loop-test .left)
+returns c = least-ends (c .before .loop .inv) (c .loop-test .left)
 
 pub cost-of-kind-spec : {M : Type 1} → statement M
 cost-of-kind-spec =
@@ -49,9 +30,9 @@ cost-of-kind-spec =
     Inv-loop
     μ-loop
     loop-holds
-    cost-from-requires
-    least-of-requires
-    add-first
-    loop-less
+    (λ c κs. search needs)
+    (λ c κs. search needs)
+    (λ c. search needs)
+    (λ c. search needs)
     loop-again
     returns)

@@ -19,23 +19,10 @@ abbrev μ-loop : tie.MeasureT-loop
 loop-holds : tie.Need-loop-holds Inv-loop μ-loop
 loop-holds c = costs-none _ refl
 
-cost-at-requires : tie.Need-cost-at-requires Inv-loop μ-loop
-cost-at-requires c κs = search needs
-
-mul-costs : tie.Need-mul-costs Inv-loop μ-loop
-mul-costs c = search needs
-
-array-write-costs : tie.Need-array-write-costs Inv-loop μ-loop
-array-write-costs c = search needs
-
-add-p : tie.Need-add-p Inv-loop μ-loop
-add-p c = search needs
-
-loop-less : tie.Need-loop-less Inv-loop μ-loop
-loop-less c = search needs
-
 loop-again : tie.Need-loop-again Inv-loop μ-loop
-loop-again c = costs-more (lt-of-lt-of-le (c .before .loop-test .taken) (c .before .before .before .before .pre .states-most)) (c .before .before .loop .inv) (c .cost-at .ensures)
+loop-again c =
+    let l = lt-of-lt-of-le (c .before .loop-test .taken) (c .before .before .before .before .pre .states-most) in
+    costs-more l (c .before .before .loop .inv) (c .cost-at .ensures)
 
 returns : tie.Need-returns Inv-loop μ-loop
 returns c = costs-end (c .before .loop .inv) (c .loop-test .left)
@@ -47,10 +34,10 @@ costs-spec =
     Inv-loop
     μ-loop
     loop-holds
-    cost-at-requires
-    mul-costs
-    array-write-costs
-    add-p
-    loop-less
+    (λ c κs. search needs)
+    (λ c. search needs)
+    (λ c. search needs)
+    (λ c. search needs)
+    (λ c. search needs)
     loop-again
     returns)

@@ -5,82 +5,54 @@ use Rattle.faults.proofs.AtMostTwo.{inside}
 use Rattle.faults.proofs.fault_of.Statement.{statement}
 use Rattle.faults.proofs.fault_of.Tie as tie
 
-enum-told : tie.Need-enum-told
-enum-told c = search needs
-
-new-requires : tie.Need-new-requires
-new-requires c κs = search needs
-
-new-requires-2 : tie.Need-new-requires-2
-new-requires-2 c κs = search needs
-
-enum-told-2 : tie.Need-enum-told-2
-enum-told-2 c = search needs
-
-new-requires-3 : tie.Need-new-requires-3
-new-requires-3 c κs = search needs
-
-new-requires-4 : tie.Need-new-requires-4
-new-requires-4 c κs = search needs
-
-enum-told-3 : tie.Need-enum-told-3
-enum-told-3 c = search needs
-
-new-requires-5 : tie.Need-new-requires-5
-new-requires-5 c κs = search needs
-
-new-requires-6 : tie.Need-new-requires-6
-new-requires-6 c κs = search needs
-
-enum-told-4 : tie.Need-enum-told-4
-enum-told-4 c = search needs
-
-new-requires-7 : tie.Need-new-requires-7
-new-requires-7 c κs = search needs
-
-new-requires-8 : tie.Need-new-requires-8
-new-requires-8 c κs = search needs
-
 returns : tie.Need-returns
 returns c =
     let sent = c .before .new .ensures in
-    let received = c .new2 .ensures in
-    (rw (c .before .before .enum-told .given .1, sent, received), λ k a b. record { sent-in = inside sent (omega arith) a (omega arith); received-in = inside received (omega arith) (omega arith) (omega arith) })
+    let received = c .new2 .ensures in (
+      rw (c .before .before .enum-told .given .1, sent, received),
+      λ k a b. record { sent-in = inside sent (omega arith) a (omega arith); received-in = inside received (omega arith) (omega arith) (omega arith) },
+    )
 
 returns-2 : tie.Need-returns-2
 returns-2 c =
     let sent = c .before .new3 .ensures in
-    let received = c .new4 .ensures in
-    (rw (c .before .before .enum-told2 .given .1, sent, received), λ k a b. record { sent-in = inside sent (omega arith) a (omega arith); received-in = inside received (omega arith) b (omega arith) })
+    let received = c .new4 .ensures in (
+      rw (c .before .before .enum-told2 .given .1, sent, received),
+      λ k a b. record { sent-in = inside sent (omega arith) a (omega arith); received-in = inside received (omega arith) b (omega arith) },
+    )
 
 returns-3 : tie.Need-returns-3
 returns-3 c =
     let sent = c .before .new5 .ensures in
-    let received = c .new6 .ensures in
-    (rw (c .before .before .enum-told3 .given .1, sent, received), λ k a b. record { sent-in = inside sent (omega arith) a (omega arith); received-in = inside received (omega arith) a a })
+    let received = c .new6 .ensures in (
+      rw (c .before .before .enum-told3 .given .1, sent, received),
+      λ k a b. record { sent-in = inside sent (omega arith) a (omega arith); received-in = inside received (omega arith) a a },
+    )
 
 returns-4 : tie.Need-returns-4
 returns-4 c =
     let sent = c .before .new7 .ensures in
-    let received = c .new8 .ensures in
-    (rw (c .before .before .enum-told4 .given .1, sent, received), λ k a b. record { sent-in = inside sent (omega arith) a b; received-in = inside received (omega arith) b a })
+    let received = c .new8 .ensures in (
+      rw (c .before .before .enum-told4 .given .1, sent, received),
+      λ k a b. record { sent-in = inside sent (omega arith) a b; received-in = inside received (omega arith) b a },
+    )
 
 pub fault-of-spec : {M : Type 1} → statement M
 fault-of-spec =
     tie.close
     (tie.spec
-    enum-told
-    new-requires
-    new-requires-2
-    enum-told-2
-    new-requires-3
-    new-requires-4
-    enum-told-3
-    new-requires-5
-    new-requires-6
-    enum-told-4
-    new-requires-7
-    new-requires-8
+    (λ c. search needs)
+    (λ c κs. search needs)
+    (λ c κs. search needs)
+    (λ c. search needs)
+    (λ c κs. search needs)
+    (λ c κs. search needs)
+    (λ c. search needs)
+    (λ c κs. search needs)
+    (λ c κs. search needs)
+    (λ c. search needs)
+    (λ c κs. search needs)
+    (λ c κs. search needs)
     returns
     returns-2
     returns-3

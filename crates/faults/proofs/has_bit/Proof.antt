@@ -4,11 +4,8 @@ use Rattle.theory.proofs.Bits.{bit-read}
 use Rattle.faults.proofs.has_bit.Statement.{statement}
 use Rattle.faults.proofs.has_bit.Tie as tie
 
-shr-result : tie.Need-shr-result
-shr-result c = search needs
-
 returns : tie.Need-returns
 returns c = bit-read (c .args .number) (c .args .rank)
 
 pub has-bit-spec : {M : Type 1} → statement M
-has-bit-spec = tie.close (tie.spec shr-result returns)
+has-bit-spec = tie.close (tie.spec (λ c. search needs) returns)

@@ -18,25 +18,17 @@ slice-write-area c =
     let start = c .before .before .before in
     omega (arith, start .pre .0, count-is (start .args .symbols) (start .pre .1 .count-most), c .before .if1 .left)
 
-same-length : tie.Need-same-length
-same-length c = search needs
-
 returns-2 : tie.Need-returns-2
 returns-2 c = rw (c .if2 .taken)
 
 cast-area-2 : tie.Need-cast-area-2
 cast-area-2 c = omega (arith, c .before .before .before .before .before .before .pre .1 .second-in)
 
-add-area : tie.Need-add-area
-add-area c = search needs
-
 slice-write-area-2 : tie.Need-slice-write-area-2
 slice-write-area-2 c =
     let start = c .before .before .before .before .before .before in
-    rw length-set (omega (arith, start .pre .0, count-is (start .args .symbols) (start .pre .1 .count-most), c .before .before .before .before .if1 .left, c .before .if2 .left))
-
-same-length-2 : tie.Need-same-length-2
-same-length-2 c = search needs
+    let count = count-is (start .args .symbols) (start .pre .1 .count-most) in
+    rw length-set (omega (arith, start .pre .0, count, c .before .before .before .before .if1 .left, c .before .if2 .left))
 
 returns-3 : tie.Need-returns-3
 returns-3 c =
@@ -50,10 +42,10 @@ write-symbols-spec =
     returns
     cast-area
     slice-write-area
-    same-length
+    (λ c. search needs)
     returns-2
     cast-area-2
-    add-area
+    (λ c. search needs)
     slice-write-area-2
-    same-length-2
+    (λ c. search needs)
     returns-3)

@@ -7,9 +7,6 @@ use Rattle.faults.proofs.Rest.{each-between}
 use Rattle.faults.proofs.Cursor.begin.Statement.{statement}
 use Rattle.faults.proofs.Cursor.begin.Tie as tie
 
-from-rank-requires : tie.Need-from-rank-requires
-from-rank-requires c κs = search needs
-
 returns : tie.Need-returns
 unfolding steps
 returns c =
@@ -17,4 +14,4 @@ returns c =
     (λ k some. e .0 k some ∙ sym (each-between (stepsIfHeld (c .before .args .set .bits) k) kinds), e .1)
 
 pub begin-spec : {M : Type 1} → statement M
-begin-spec = tie.close (tie.spec from-rank-requires returns)
+begin-spec = tie.close (tie.spec (λ c κs. search needs) returns)

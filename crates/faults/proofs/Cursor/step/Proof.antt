@@ -7,17 +7,13 @@ use Rattle.faults.proofs.ByKind.{second-in}
 use Rattle.faults.proofs.Cursor.step.Statement.{statement}
 use Rattle.faults.proofs.Cursor.step.Tie as tie
 
-kind-at-requires : tie.Need-kind-at-requires
-kind-at-requires c κs = search needs
-
-fault-of-requires : tie.Need-fault-of-requires
-fault-of-requires c κs = search needs
-
 returns : tie.Need-returns
 returns c =
     let at = c .before .before .args .self in
-    let e = c .fault-of .ensures in
-    (e .0 ∙ ap (λ (rank : ℕ). stepOf rank (at .first) (at .second)) (c .before .kind-at .ensures), λ k p. e .1 k (p .first-in) (second-in (at .rank) (p .first-in) (p .second-in)))
+    let e = c .fault-of .ensures in (
+      e .0 ∙ ap (λ (rank : ℕ). stepOf rank (at .first) (at .second)) (c .before .kind-at .ensures),
+      λ k p. e .1 k (p .first-in) (second-in (at .rank) (p .first-in) (p .second-in)),
+    )
 
 pub step-spec : {M : Type 1} → statement M
-step-spec = tie.close (tie.spec kind-at-requires fault-of-requires returns)
+step-spec = tie.close (tie.spec (λ c κs. search needs) (λ c κs. search needs) returns)

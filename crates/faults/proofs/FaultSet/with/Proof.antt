@@ -3,11 +3,8 @@ use borrow.Author.Needs.{needs}
 use Rattle.faults.proofs.FaultSet.with.Statement.{statement}
 use Rattle.faults.proofs.FaultSet.with.Tie as tie
 
-bit-of-requires : tie.Need-bit-of-requires
-bit-of-requires c κs = search needs
-
 returns : tie.Need-returns
 returns c = rw (c .before .bit-of .ensures)
 
 pub with-spec : {M : Type 1} → statement M
-with-spec = tie.close (tie.spec bit-of-requires returns)
+with-spec = tie.close (tie.spec (λ c κs. search needs) returns)
