@@ -2,7 +2,7 @@
 use mathlib.Core.Path.{_≡_, refl, sym, ap, _∙_}
 use mathlib.Core.List.{List, _++_}
 use mathlib.Core.Option.{Option, none, some}
-use Prim.Native.Nat.{ℕ, _^_, _≤_, _<_}
+use Prim.Native.Nat.{ℕ, _≤_, _<_}
 use native.Mathlib.Omega.{arith}
 use lib.Bits.{bitOr}
 use lib.ListN.{length, getD, take}
@@ -22,6 +22,9 @@ use Rattle.theory.proofs.Witness.{harmful-same, first-harms, sent-trace, receiv
 use Rattle.monitor.specs.Format.{Table, automatonOf, tableOf}
 use Rattle.monitor.specs.declared.Shape.{Shape}
 use Rattle.pairs.specs.Square.{differing}
+use Rattle.faults.specs.declared.Kind.{Kind}
+use Rattle.faults.specs.Kinds.{rankOf, bitOf}
+use Rattle.faults.proofs.ByKind.{bit-is}
 use Rattle.immunity.specs.Findings.{witnessFigures, witnessTrace, roomQuestions, tableFigures, columnFigures}
 use Rattle.immunity.specs.Search.{answerOf}
 use Rattle.immunity.proofs.Room.{room-enough}
@@ -86,6 +89,6 @@ module _ {limit n k start : ℕ} {vs ts : List ℕ} (t : Table limit n k start v
   marks-answer set room large e = table-answer t 3 set vs marks-read room e ∙ room-enough limit table (t .well-formed) 3 set room large (tableFigures table 3 set)
 
 -- a set built by adding one kind to the empty set
-pub alone : (m : Monitor) (rank : ℕ) {none one kind : ℕ} {r : Answer} → kind ≡ rank → none ≡ 0 → one ≡ bitOr none (2 ^ kind) → r ≡ answered (tableFigures m 3 one)
-    → r ≡ answered (columnFigures rank m)
-alone m rank ek e₀ e₁ er = er ∙ rw (e₁, e₀, ek)
+pub alone : (m : Monitor) (rank : ℕ) (kind : Kind) {none one : ℕ} {r : Answer} → rankOf kind ≡ rank → none ≡ 0 → one ≡ bitOr none (bitOf kind)
+    → r ≡ answered (tableFigures m 3 one) → r ≡ answered (columnFigures rank m)
+alone m rank kind ek e₀ e₁ er = er ∙ rw (e₁, e₀, bit-is kind, ek)
