@@ -51,7 +51,7 @@ module _ (limit : ℕ) (b : List ℕ) (e : judgeAnswer limit b ≡ answered []) 
     table = monitorability-exact w;
     inside = reached-in w;
     reaches = reached-exact w;
-    answer = λ l. accepted-asks limit b (classifyQuestions b room) (classifyFigures m) e ∙ rw (le-leb (statesOf b) room l);
+    answer = λ l. accepted-asks limit b (classifyQuestions room (monitorOf b)) (classifyFigures m) e ∙ rw (le-leb (statesOf b) room l);
   }
 
   module _ (set d : ℕ) where
