@@ -1,4 +1,5 @@
-// The cards of a collection's rules, for a person. Reads the collection from standard input; arguments name the rules, and with none all are shown.
+// The cards of a collection's rules, for a person. Reads the collection from standard input; arguments name the rules,
+// and with none all are shown.
 mod chosen;
 mod runs;
 mod states;
@@ -9,6 +10,8 @@ use basics::Refusal;
 use classes::Classification;
 use collection::Collected;
 use faults::FaultSet;
+use faults::KINDS;
+use faults::Kind;
 use immunity::Finding;
 use theory::SQUARE_SIZE;
 use theory::STATE_LIMIT;
@@ -17,10 +20,11 @@ use theory::STATE_LIMIT;
 const ROOM: usize = SQUARE_SIZE + STATE_LIMIT + 2;
 
 // The finding under one fault and one reading.
-fn fault(body: &[u8], set: FaultSet, domain: usize) {
-    words::fault_name(set.bits);
+fn fault(body: &[u8], kind: Kind, domain: usize) {
+    words::fault_name(kind);
     let mut area = [0u8; ROOM];
-    let finding = immunity::examine(body, set.bits, domain, &mut area);
+    let set = FaultSet::empty().with(kind).number();
+    let finding = immunity::examine(body, set, domain, &mut area);
     let Finding::Vulnerable(witness) = finding else {
         words::no_witness(finding);
         return;
@@ -28,12 +32,13 @@ fn fault(body: &[u8], set: FaultSet, domain: usize) {
     traces::draw(basics::part(&area, 0, witness.distance), witness, domain);
 }
 
+// Each fault alone, in the written order.
 fn faults_by(body: &[u8], domain: usize) {
-    let none = FaultSet::empty();
-    fault(body, none.with(FaultSet::LOSS), domain);
-    fault(body, none.with(FaultSet::CORRUPTION), domain);
-    fault(body, none.with(FaultSet::REPEAT), domain);
-    fault(body, none.with(FaultSet::SWAP), domain);
+    let mut rank = 0;
+    while rank < KINDS {
+        fault(body, faults::kind_at(rank), domain);
+        rank += 1;
+    }
 }
 
 // The states, those reached, and the messages.

@@ -7,14 +7,9 @@ const COLUMNS: usize = 76;
 
 // The name of a class, up to the column where its states begin.
 fn class_name(class: u8) {
-    match class {
-        0 => printing::text(b"  good            "),
-        1 => printing::text(b"  bad             "),
-        2 => printing::text(b"  positive        "),
-        3 => printing::text(b"  negative        "),
-        4 => printing::text(b"  neutral         "),
-        _ => printing::text(b"  ugly            "),
-    }
+    printing::text(b"  ");
+    let used = printing::class_word(class);
+    printing::text(basics::part(b"                ", used, 16));
 }
 
 // Makes room for so many columns behind those in use: a full line is ended. Answers the columns then in use.

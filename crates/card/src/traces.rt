@@ -3,7 +3,7 @@
 use crate::runs;
 use crate::words;
 use faults::Fault;
-use faults::FaultSet;
+use faults::Kind;
 use faults::Symbols;
 use immunity::Witness;
 ghost use Prim.Native.Nat.{_≤_, _<_};
@@ -202,19 +202,27 @@ fn lines(head: &[u8], rest: &[u8], fault: Fault, w: Witness, end: usize, domain:
     }
 }
 
+// The replacement of a witness, or the neighbour of the first message that the fault covers.
+fn second_of(sent: &[u8], w: Witness) -> usize
+    requires { ⌜ w .before < length (now sent) ⌝ }
+{
+    let at = w.before;
+    let kind = w.kind;
+    match kind {
+        Kind::Loss => 0,
+        Kind::Corruption => w.replacement,
+        Kind::Repeat => 0,
+        Kind::Swap => basics::byte_at(sent, at + 1),
+    }
+}
+
 // The fault step of a witness.
 fn fault_of(sent: &[u8], w: Witness) -> Fault
     requires { ⌜ w .before < length (now sent) ⌝ }
 {
     let at = w.before;
-    let a = basics::byte_at(sent, at);
     let kind = w.kind;
-    match kind {
-        FaultSet::LOSS => faults::fault_of(0, a, 0),
-        FaultSet::CORRUPTION => faults::fault_of(1, a, w.replacement),
-        FaultSet::REPEAT => faults::fault_of(2, a, 0),
-        _ => faults::fault_of(3, a, basics::byte_at(sent, at + 1)),
-    }
+    faults::fault_of(kind, basics::byte_at(sent, at), second_of(sent, w))
 }
 
 // The witness whose sent trace is given. Both tests hold of every witness.

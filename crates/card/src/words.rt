@@ -1,9 +1,10 @@
 // The words of a card: refusals, monitorability, faults and readings.
 use basics::Refusal;
-use faults::FaultSet;
+use faults::Kind;
 use immunity::Finding;
 
-// The no to a question of a body, in words: 1 to 8. The last line is never used, since the areas here are as long as any answer.
+// The no to a question of a body, in words: 1 to 8. The last line is never used, since the areas here are as long as any
+// answer.
 fn body_question(number: usize) {
     match number {
         1 => printing::text(b"shorter than 3 bytes"),
@@ -96,17 +97,12 @@ pub fn three_columns(n: usize) {
 }
 
 // The name of a fault, up to the column where its finding begins.
-pub fn fault_name(bit: usize) {
-    match bit {
-        FaultSet::LOSS => printing::text(b"  loss            "),
-        FaultSet::CORRUPTION => printing::text(b"  corruption      "),
-        FaultSet::REPEAT => printing::text(b"  repeat          "),
-        FaultSet::SWAP => printing::text(b"  swap            "),
-        _ => {
-            printing::text(b"  ");
-            three_columns(bit);
-            printing::text(b"             ");
-        }
+pub fn fault_name(kind: Kind) {
+    match kind {
+        Kind::Loss => printing::text(b"  loss            "),
+        Kind::Corruption => printing::text(b"  corruption      "),
+        Kind::Repeat => printing::text(b"  repeat          "),
+        Kind::Swap => printing::text(b"  swap            "),
     }
 }
 

@@ -2,10 +2,10 @@
 use collection::Collected;
 use lines::Line;
 
-// The line of entry i; no line is longer than the area.
-fn print_line(file: &[u8], i: usize) {
+// The line of a rule; no line is longer than the area.
+fn print_line(rule: usize, body: &[u8]) {
     let mut area = [0u8; 256];
-    let Line::Written { length } = lines::write_line(file, i, &mut area) else {
+    let Line::Written { length } = lines::write_line(rule, body, &mut area) else {
         return;
     };
     io::write_all(libc::STDOUT_FILENO, basics::part(&area, 0, length));
@@ -18,7 +18,7 @@ fn print_lines(file: &[u8], count: usize) {
     );
     let mut i = 0;
     while i < count {
-        print_line(file, i);
+        print_line(collection::rule_number(file, i), collection::body(file, i));
         i += 1;
     }
 }

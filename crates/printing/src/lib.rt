@@ -1,14 +1,17 @@
-// The words and lines that programs print. No contract can say what is written; the output of programs is compared with a stored one.
+// The words and lines that programs print. No contract can say what is written; the output of programs is compared with a
+// stored one.
 use basics::Refusal;
 use classes::Classification;
 use collection::Collected;
-use immunity::Carded;
+use faults::FaultSet;
 use immunity::Finding;
-use immunity::LinkCard;
 use immunity::Witness;
 use monitor::Judgement;
 use readings::Stepped;
 use readings::Traced;
+ghost use mathlib.Core.Path.{_≡_};
+ghost use Prim.Native.Nat.{_≤_};
+ghost use lib.ListN.{length};
 
 pub fn text(words: &[u8]) {
     io::write_all(1, words);
@@ -26,14 +29,25 @@ pub fn refusal(r: Refusal) {
     number(r.place);
 }
 
-pub fn class_word(class: u8) {
+// A word, and how many columns it takes.
+fn word(letters: &[u8]) -> usize
+    ensures { λ r. ⌜ r ≡ length (now (letters .entry)) ⌝ }
+{
+    text(letters);
+    letters.len()
+}
+
+// The word for a class, and how many columns it takes.
+pub fn class_word(class: u8) -> usize
+    ensures { λ r. ⌜ r ≤ 8 ⌝ }
+{
     match class {
-        0 => text(b"good"),
-        1 => text(b"bad"),
-        2 => text(b"positive"),
-        3 => text(b"negative"),
-        4 => text(b"neutral"),
-        _ => text(b"ugly"),
+        0 => word(b"good"),
+        1 => word(b"bad"),
+        2 => word(b"positive"),
+        3 => word(b"negative"),
+        4 => word(b"neutral"),
+        _ => word(b"ugly"),
     }
 }
 
@@ -121,7 +135,7 @@ fn witness(w: Witness) {
     text(b" before ");
     number(w.before);
     text(b" kind ");
-    number(w.kind);
+    number(FaultSet::bit_of(w.kind));
     text(b" replacement ");
     number(w.replacement);
     text(b" readings ");
@@ -135,36 +149,5 @@ pub fn finding(answer: Finding) {
         Finding::Refused(r) => refusal(r),
         Finding::Immune => text(b"immune"),
         Finding::Vulnerable(w) => witness(w),
-    }
-}
-
-// The distance that a finding tells, after a space; `-` where it is missing.
-pub fn column(answer: Finding) {
-    text(b" ");
-    let Finding::Vulnerable(w) = answer else {
-        text(b"-");
-        return;
-    };
-    number(w.distance);
-}
-
-fn link_card(card: LinkCard) {
-    number(card.states);
-    text(b" ");
-    monitorability_word(card.monitorability);
-    let loss = card.loss;
-    let corruption = card.corruption;
-    let repeat = card.repeat;
-    let swap = card.swap;
-    column(loss);
-    column(corruption);
-    column(repeat);
-    column(swap);
-}
-
-pub fn carded(answer: Carded) {
-    match answer {
-        Carded::Card(card) => link_card(card),
-        Carded::Refused(r) => refusal(r),
     }
 }

@@ -1,5 +1,7 @@
 // Answers questions from standard input, a line each, for a test outside that has answers of its own to compare.
-// A question is a frame: the length of what follows in two bytes, least byte first; the call; three numbers, a byte each; and the call's bytes.
+// A question is a frame: the length of what follows in two bytes, least byte first; the call; three numbers, a byte each;
+// and the call's bytes.
+use lines::Line;
 ghost use Prim.Native.Nat.{_+_, _≤_, _<_};
 ghost use lib.ListN.{length};
 
@@ -30,6 +32,17 @@ fn examine(set: usize, domain: usize, room: usize, body: &[u8]) {
     }
 }
 
+// Call 5: the card, as the listing's line of rule 0 has it between the rule number and the line feed.
+fn card(body: &[u8]) {
+    let mut area = [0u8; 256];
+    let Line::Written { length } = lines::write_line(0, body, &mut area) else {
+        return;
+    };
+    if length >= 3 {
+        printing::text(basics::part(&area, 2, length - 3));
+    }
+}
+
 fn answer(frame: &[u8]) {
     if frame.len() < 4 {
         return;
@@ -44,7 +57,7 @@ fn answer(frame: &[u8]) {
         1 => classify(a, bytes),
         2 => printing::stepped(readings::step(bytes, a, b, c)),
         4 => examine(a, b, c, bytes),
-        5 => printing::carded(immunity::card(bytes)),
+        5 => card(bytes),
         _ => trace(a, b, bytes),
     }
     printing::text(b"\n");

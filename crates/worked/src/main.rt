@@ -1,5 +1,7 @@
 // Worked examples of the fault question and the card, one line each. The stored output has what they must be.
 use faults::FaultSet;
+use faults::Kind;
+use lines::Line;
 
 // The finding, and what the area then holds. Every place of the area is 255 before.
 fn example(name: &[u8], body: &[u8], set: usize, domain: usize, room: usize) {
@@ -24,23 +26,27 @@ fn both(name: &[u8], body: &[u8], set: usize) {
     example(name, body, set, 6, 4);
 }
 
+// The card, as the listing's line of rule 0 has it behind the rule number.
 fn card(name: &[u8], body: &[u8]) {
     printing::text(name);
     printing::text(b", card: ");
-    printing::carded(immunity::card(body));
-    printing::text(b"\n");
+    let mut area = [0u8; 256];
+    let Line::Written { length } = lines::write_line(0, body, &mut area) else {
+        return;
+    };
+    printing::text(basics::part(basics::part(&area, 0, length), 2, 256));
 }
 
 // Each fault alone, and the card.
 fn table(name: &[u8], body: &[u8]) {
-    both(name, body, FaultSet::empty().with(FaultSet::LOSS).bits);
+    both(name, body, FaultSet::empty().with(Kind::Loss).number());
     both(
         name,
         body,
-        FaultSet::empty().with(FaultSet::CORRUPTION).bits,
+        FaultSet::empty().with(Kind::Corruption).number(),
     );
-    both(name, body, FaultSet::empty().with(FaultSet::REPEAT).bits);
-    both(name, body, FaultSet::empty().with(FaultSet::SWAP).bits);
+    both(name, body, FaultSet::empty().with(Kind::Repeat).number());
+    both(name, body, FaultSet::empty().with(Kind::Swap).number());
     card(name, body);
 }
 
@@ -73,19 +79,19 @@ fn written_order() {
         b"A",
         b"\x02\x02\x00\x00\x01\x00\x01\x01\x01",
         FaultSet::empty()
-            .with(FaultSet::LOSS)
-            .with(FaultSet::CORRUPTION)
-            .bits,
+            .with(Kind::Loss)
+            .with(Kind::Corruption)
+            .number(),
     );
     both(
         b"0 0 harmed too",
         b"\x03\x02\x00\x00\x00\x01\x01\x00\x00\x02\x02\x02",
-        FaultSet::empty().with(FaultSet::CORRUPTION).bits,
+        FaultSet::empty().with(Kind::Corruption).number(),
     );
     both(
         b"0 0 1 harmed too",
         b"\x03\x02\x00\x00\x00\x01\x01\x00\x02\x00\x02\x02",
-        FaultSet::empty().with(FaultSet::SWAP).bits,
+        FaultSet::empty().with(Kind::Swap).number(),
     );
 }
 
@@ -95,7 +101,7 @@ fn three_ones() {
     both(
         b"three 1s",
         body,
-        FaultSet::empty().with(FaultSet::REPEAT).bits,
+        FaultSet::empty().with(Kind::Repeat).number(),
     );
     trace(b"three 1s on 1: ", body, b"\x01");
     trace(b"three 1s on 1 1: ", body, b"\x01\x01");
@@ -104,11 +110,11 @@ fn three_ones() {
 
 fn immune() {
     let all = FaultSet::empty()
-        .with(FaultSet::LOSS)
-        .with(FaultSet::CORRUPTION)
-        .with(FaultSet::REPEAT)
-        .with(FaultSet::SWAP)
-        .bits;
+        .with(Kind::Loss)
+        .with(Kind::Corruption)
+        .with(Kind::Repeat)
+        .with(Kind::Swap)
+        .number();
     let d = b"\x01\x02\x00\x00\x00\x00";
     both(b"D", d, all);
     example(b"D, area of 0", d, all, 3, 0);
@@ -116,9 +122,9 @@ fn immune() {
         b"A",
         b"\x02\x02\x00\x00\x01\x00\x01\x01\x01",
         FaultSet::empty()
-            .with(FaultSet::REPEAT)
-            .with(FaultSet::SWAP)
-            .bits,
+            .with(Kind::Repeat)
+            .with(Kind::Swap)
+            .number(),
     );
     both(
         b"harm out of reach",
@@ -133,25 +139,25 @@ fn immune() {
     both(
         b"E",
         b"\x03\x02\x00\x00\x00\x01\x00\x01\x00\x02\x02\x02",
-        FaultSet::empty().bits,
+        FaultSet::empty().number(),
     );
 }
 
 // Question 13, and questions 9 and 10 in this order after those of the body. Numbers that do not fit a byte are not cut.
 fn refusals() {
     let e = b"\x03\x02\x00\x00\x00\x01\x00\x01\x00\x02\x02\x02";
-    let swap = FaultSet::empty().with(FaultSet::SWAP).bits;
+    let swap = FaultSet::empty().with(Kind::Swap).number();
     example(b"E, area of 3", e, swap, 3, 3);
     example(b"E, area of 2", e, swap, 3, 2);
-    example(b"E", e, FaultSet::empty().with(16).bits, 3, 4);
-    example(b"E", e, FaultSet::empty().with(257).bits, 3, 4);
-    example(b"E", e, FaultSet::empty().with(99).bits, 5, 4);
+    example(b"E", e, 16, 3, 4);
+    example(b"E", e, 257, 3, 4);
+    example(b"E", e, 99, 5, 4);
     example(b"E", e, swap, 5, 4);
     example(b"E", e, swap, 259, 4);
     example(
         b"2 bytes",
         b"\x02\x02",
-        FaultSet::empty().with(99).bits,
+        99,
         5,
         4,
     );
