@@ -10,6 +10,7 @@ use Rattle.theory.specs.Lists.{each}
 use Rattle.theory.specs.Monitor.{Monitor, monitorability}
 use Rattle.theory.specs.Answer.{Question, Answer, answered, asks}
 use Rattle.theory.specs.Faults.{kinds}
+use Rattle.theory.proofs.Lists.{each-same}
 use Rattle.basics.specs.Refusals.{refusal}
 use Rattle.basics.specs.declared.Refusal.{Refusal}
 use Rattle.immunity.specs.declared.Column.{Column}
@@ -27,9 +28,9 @@ pub record Filled (answer : ℕ → Answer) (rank : ℕ) (columns : List Column)
   pub size : length columns ≡ kinds
   pub filled : found (take rank columns) ≡ each rank (λ c. answer c ∷ [])
 
-pub filled-none : (answer : ℕ → Answer) (column : Column) → Filled answer 0 (replicate kinds column)
+pub filled-one : (answer : ℕ → Answer) (column : Column) → finding (column .finding) ≡ answer 0 → Filled answer 1 (replicate kinds column)
 unfolding each
-filled-none answer column = record { upto = omega arith; size = refl; filled = refl }
+filled-one answer column e = record { upto = omega arith; size = refl; filled = rw e }
 
 pub filled-more : {answer : ℕ → Answer} {rank : ℕ} {columns : List Column} (column : Column) → Filled answer rank columns → rank < kinds
     → finding (column .finding) ≡ answer rank → Filled answer (rank + 1) (set columns rank column)
@@ -57,17 +58,16 @@ alone-in m c = answered (columnFigures c m)
 -- ---- the card of a refused body, and of an accepted one
 
 module _ (questions : List Question) (m : Monitor) where
-  abbrev figures : ℕ → List ℕ
-  figures c = columnFigures c m
-
   pub card-asks : ((values : List ℕ) → asks questions values ≡ answered values) → cardAsking [] m ≡ cardAsking questions m
-  unfolding each
-  card-asks e = sym (rw (e (summaryFigures m), e (figures 0), e (figures 1), e (figures 2), e (figures 3)))
+  card-asks e =
+      let columns = each-same kinds (λ c. answered (columnFigures c m) ∷ []) (λ c. asks questions (columnFigures c m) ∷ []) (λ c. rw (e (columnFigures c m))) in
+      rw (e (summaryFigures m), columns)
 
   pub card-refuses : (x : Refusal) → ((values : List ℕ) → asks questions values ≡ refusal x)
-      → record { summary = refusal x; columns = replicate kinds (refusal x) } ≡ cardAsking questions m
-  unfolding each
-  card-refuses x e = sym (rw (e (summaryFigures m), e (figures 0), e (figures 1), e (figures 2), e (figures 3)))
+      → record { summary = refusal x; columns = each kinds (λ c. refusal x ∷ []) } ≡ cardAsking questions m
+  card-refuses x e =
+      let columns = each-same kinds (λ c. refusal x ∷ []) (λ c. asks questions (columnFigures c m) ∷ []) (λ c. rw (e (columnFigures c m))) in
+      rw (e (summaryFigures m), columns)
 
 -- the card of a table by its parts
 pub card-is : (m : Monitor) {y : ℕ} {columns : List Answer} → y ≡ monitorability m → columns ≡ cardAsking [] m .columns

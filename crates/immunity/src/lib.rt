@@ -9,10 +9,12 @@ use pairs::NEVER;
 use theory::SQUARE_SIZE;
 use theory::STATE_LIMIT;
 ghost use mathlib.Core.Path.{_≡_};
-ghost use mathlib.Core.List.{[]};
+ghost use mathlib.Core.List.{[], _∷_};
 ghost use mathlib.Core.Option.{some};
-ghost use lib.ListN.{length, getD, replicate};
+ghost use Prim.Native.Nat.{_<_};
+ghost use lib.ListN.{length, getD};
 ghost use lib.Seq.{sets};
+ghost use Rattle.theory.specs.Lists.{each};
 ghost use Rattle.theory.specs.Answer.{answered, asks, written};
 ghost use Rattle.theory.specs.Monitor.{stateLimit};
 ghost use Rattle.theory.specs.Faults.{kinds};
@@ -21,8 +23,9 @@ ghost use Rattle.theory.specs.Computed.{horizon, firstWitness};
 ghost use Rattle.basics.specs.Refusals.{refusal};
 ghost use Rattle.monitor.specs.Opening.{monitorIn, TableIn};
 ghost use Rattle.pairs.specs.Square.{Squared, differing};
-ghost use Rattle.immunity.specs.Findings.{seriesFigures, witnessTrace, roomQuestions, faultQuestions, tableFigures};
-ghost use Rattle.immunity.specs.Findings.{faultAnswer, faultTrace, witnessValues, finding, cardAsking, cardAnswer, found, carded};
+ghost use Rattle.immunity.specs.Findings.{seriesFigures, witnessTrace, roomQuestions, faultQuestions};
+ghost use Rattle.immunity.specs.Findings.{tableFigures, faultAnswer, faultTrace, witnessValues, finding};
+ghost use Rattle.immunity.specs.Findings.{columnFigures, cardAsking, cardAnswer, found, carded};
 ghost use Rattle.immunity.specs.Search.{firstOf, answerOf, Posed, Ready, automatonIn};
 
 // A witness whose sent trace stands in the area: its length, the symbols before the fault, the fault's kind, the
@@ -230,40 +233,41 @@ fn scratch() -> [u8; ROOM]
     [0u8; ROOM]
 }
 
-// The finding for one fault set, by marks. The sent trace of a witness stays in the area.
-fn finding_in(
+// The column of a rank: its fault alone, by marks. The sent trace of a witness stays in the area.
+fn column_of(
     marks: &[u8],
     square: &[u16; SQUARE_SIZE],
     nexts: &[u8],
     t: Shape,
-    set: FaultSet,
+    rank: usize,
     area: &mut [u8],
-) -> Finding
+) -> Column
     requires { ⌜ TableIn t marks nexts
         × Squared (automatonIn t (now nexts)) (differing (now marks)) (now square)
+        × (rank < kinds)
         × (length (now area) ≡ horizon stateLimit) ⌝ }
-    ensures finding { λ r. ⌜ finding r
-        ≡ answered (tableFigures (monitorIn t (marks .entry) (nexts .entry)) 3 (set .bits)) ⌝ }
+    ensures column { λ r. ⌜ finding (r .finding)
+        ≡ answered (columnFigures rank (monitorIn t (marks .entry) (nexts .entry))) ⌝ }
     ensures area { λ _. ⌜ length (now (area .exit)) ≡ horizon stateLimit ⌝ }
 {
-    examine_set(marks, square, nexts, t, set, area)
+    let set = FaultSet::empty().with(faults::kind_at(rank));
+    let finding = examine_set(marks, square, nexts, t, set, area);
+    Column { finding }
 }
 
-// The columns of a table: each fault alone, in the written order. The square is made once for all of them.
-fn columns_of(marks: &[u8], nexts: &[u8], t: Shape) -> [Column; KINDS]
-    requires { ⌜ TableIn t marks nexts ⌝ }
+// The columns of a table: each fault alone, in the written order, all from one square.
+fn columns_of(marks: &[u8], square: &[u16; SQUARE_SIZE], nexts: &[u8], t: Shape) -> [Column; KINDS]
+    requires { ⌜ TableIn t marks nexts
+        × Squared (automatonIn t (now nexts)) (differing (now marks)) (now square) ⌝ }
     ensures { λ r. ⌜ found r ≡ cardAsking [] (monitorIn t (marks .entry) (nexts .entry)) .columns ⌝ }
 {
-    let square = pairs::distances(nexts, t.states, t.symbols, marks);
     let mut area = scratch();
-    let mut columns = [Column {
-        finding: Finding::Immune,
-    }; KINDS];
-    let mut rank = 0;
+    let first = column_of(marks, square, nexts, t, 0, &mut area);
+    let mut columns = [first; KINDS];
+    let mut rank = 1;
     while rank < KINDS {
-        let set = FaultSet::empty().with(faults::kind_at(rank));
-        let finding = finding_in(marks, &square, nexts, t, set, &mut area);
-        columns[rank] = Column { finding };
+        let column = column_of(marks, square, nexts, t, rank, &mut area);
+        columns[rank] = column;
         rank += 1;
     }
     columns
@@ -278,13 +282,14 @@ fn card_of(marks: &[u8], nexts: &[u8], t: Shape) -> LinkCard
         states: t.states,
         monitorability: classes::monitorability_of(marks, nexts, t),
     };
-    let columns = columns_of(marks, nexts, t);
+    let square = pairs::distances(nexts, t.states, t.symbols, marks);
+    let columns = columns_of(marks, &square, nexts, t);
     LinkCard { summary, columns }
 }
 
 // The card of a refused table.
 fn refused_card(r: Refusal) -> LinkCard
-    ensures { λ c. ⌜ carded c ≡ record { summary = refusal r; columns = replicate kinds (refusal r) } ⌝ }
+    ensures { λ c. ⌜ carded c ≡ record { summary = refusal r; columns = each kinds (λ c. refusal r ∷ []) } ⌝ }
 {
     let summary = Summary::Refused(r);
     let columns = [Column {

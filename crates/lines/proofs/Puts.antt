@@ -110,7 +110,7 @@ columns-more {columns} {rank = rank} column h l e p = record {
         ∙ spaced-then (columnTexts (take rank columns)) (ascii " " ++ findingText (column .finding)))
 
 pub columns-all : {columns : List Column} {before after : List ℕ} {at end rank : ℕ} → ColumnsPut columns before at after end rank → kinds ≤ rank → length columns ≡ kinds
-    → Put (spaced (columnTexts columns) []) before at after end × (end ≤ at + 84)
+    → Put (spaced (columnTexts columns) []) before at after end × (end ≤ at + 21 * kinds)
 columns-all {columns} {rank = rank} h l size =
     let e : rank ≡ kinds = omega (arith, l, h .upto) in
     (put-as (ap (λ (c : List Column). spaced (columnTexts c) []) (take-all rank columns (omega (arith, l, size)))) (h .put), omega (arith, h .room, e))

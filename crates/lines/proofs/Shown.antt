@@ -2,7 +2,7 @@
 use mathlib.Core.Path.{_≡_, refl, sym, ap, _∙_}
 use mathlib.Core.List.{List, [], _∷_, _++_}
 use mathlib.Core.Option.{Option, none, some}
-use Prim.Native.Nat.{ℕ, _+_, _≤_, _<_, _^_}
+use Prim.Native.Nat.{ℕ, zero, suc, _+_, _≤_, _<_, _^_}
 use native.Mathlib.Nat.{zero-add}
 use native.Mathlib.Omega.{arith}
 use lib.ListN.{length, getD, take, drop, length-take}
@@ -58,9 +58,15 @@ distance-text m d set = go (firstWitness m d set)
     go none = refl
     go (some s) = refl
 
-distance-texts : (m : Monitor) → answerTexts (cardAsking [] m .columns) ≡ distanceTexts m
+texts-append : (xs ys : List Answer) → answerTexts (xs ++ ys) ≡ answerTexts xs ++ answerTexts ys
+unfolding answerTexts
+texts-append [] ys = refl
+texts-append (x ∷ xs) ys = rw (texts-append xs ys)
+
+distance-texts : (m : Monitor) (n : ℕ) → answerTexts (each n (λ c. answered (columnFigures c m) ∷ [])) ≡ each n (λ c. distanceText (distance m 3 (2 ^ c)) ∷ [])
 unfolding answerTexts each
-distance-texts m = rw (distance-text m 3 1, distance-text m 3 2, distance-text m 3 4, distance-text m 3 8)
+distance-texts m zero = refl
+distance-texts m (suc n) = texts-append (each n (λ c. answered (columnFigures c m) ∷ [])) (answered (columnFigures n m) ∷ []) ∙ rw (distance-texts m n, distance-text m 3 (2 ^ n))
 
 found-length : (columns : List Column) → length columns ≡ length (found columns)
 found-length [] = refl
@@ -93,7 +99,7 @@ module _ (limit : ℕ) (b : List ℕ) (rule : ℕ) (card : LinkCard) (e : carded
       let passed : asks (tableQuestions limit b) (summaryFigures m) ≡ answered (n ∷ y ∷ []) = sym summary ∙ ap summarised h in
       let accepts : (values : List ℕ) → asks (tableQuestions limit b) values ≡ answered values = λ values. asks-other (tableQuestions limit b) (summaryFigures m) values passed in
       let texts : columnTexts (card .columns) ≡ distanceTexts m =
-      column-texts (card .columns) ∙ ap answerTexts (columns ∙ ap (λ (c : CardAnswer). c .columns) (sym (card-asks (tableQuestions limit b) m accepts))) ∙ distance-texts m in
+      column-texts (card .columns) ∙ ap answerTexts (columns ∙ ap (λ (c : CardAnswer). c .columns) (sym (card-asks (tableQuestions limit b) m accepts))) ∙ distance-texts m kinds in
       let values : summaryFigures m ≡ n ∷ y ∷ [] = asks-values (tableQuestions limit b) (summaryFigures m) passed in
       let states : m .automaton .states ≡ n = ap (λ (l : List ℕ). getD l 0 0) values in
       let monitorable : monitorability m ≡ y = ap (λ (l : List ℕ). getD l 1 0) values in

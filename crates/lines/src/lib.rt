@@ -6,7 +6,7 @@ use immunity::Finding;
 use immunity::Summary;
 ghost use mathlib.Core.Path.{_≡_};
 ghost use mathlib.Core.List.{[], _++_};
-ghost use Prim.Native.Nat.{_+_, _≤_};
+ghost use Prim.Native.Nat.{_+_, _*_, _≤_};
 ghost use lib.ListN.{length};
 ghost use Rattle.theory.specs.Answer.{written};
 ghost use Rattle.theory.specs.Monitor.{stateLimit};
@@ -101,9 +101,9 @@ fn put_distance(finding: Finding, buffer: &mut [u8], at: usize) -> usize
 // The columns, a space before each.
 fn put_columns(columns: [Column; KINDS], buffer: &mut [u8], at: usize) -> usize
     requires { ⌜ (length columns ≡ kinds)
-        × (at + 84 ≤ length (now buffer)) ⌝ }
+        × (at + 21 * kinds ≤ length (now buffer)) ⌝ }
     ensures { λ r. ⌜ Put (spaced (columnTexts columns) []) (now (buffer .entry)) at (now (buffer .exit)) r
-        × (r ≤ at + 84) ⌝ }
+        × (r ≤ at + 21 * kinds) ⌝ }
 {
     let mut end = at;
     let mut rank = 0;

@@ -37,6 +37,11 @@ module _ {A : Type 0} where
     pub below : index < n
     pub here : In x (f index)
 
+  pub each-same : (n : ℕ) (f g : ℕ → List A) → ((i : ℕ) → f i ≡ g i) → each n f ≡ each n g
+  unfolding each
+  each-same zero f g h = refl
+  each-same (suc n) f g h = rw (each-same n f g h, h n)
+
   pub each-in : (x : A) (n : ℕ) (f : ℕ → List A) (i : ℕ) → i < n → In x (f i) → In x (each n f)
   unfolding each
   each-in x zero f i l h = absurd (not-suc-le-zero l)

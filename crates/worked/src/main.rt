@@ -154,13 +154,7 @@ fn refusals() {
     example(b"E", e, 99, 5, 4);
     example(b"E", e, swap, 5, 4);
     example(b"E", e, swap, 259, 4);
-    example(
-        b"2 bytes",
-        b"\x02\x02",
-        99,
-        5,
-        4,
-    );
+    example(b"2 bytes", b"\x02\x02", 99, 5, 4);
 }
 
 fn main() {

@@ -8,44 +8,41 @@ use Rattle.theory.specs.Faults.{kinds}
 use Rattle.theory.specs.Computed.{horizon}
 use Rattle.monitor.specs.Format.{tableOf}
 use Rattle.monitor.specs.Opening.{monitorIn}
-use Rattle.immunity.proofs.Columns.{Filled, alone-in, filled-none, filled-more, filled-all}
-use Rattle.immunity.proofs.Tables.{alone}
+use Rattle.immunity.proofs.Columns.{Filled, alone-in, filled-one, filled-more, filled-all}
 use Rattle.immunity.proofs.columns_of.Statement.{statement}
 use Rattle.immunity.proofs.columns_of.Tie as tie
 
 abbrev Inv-loop : tie.InvT-loop
-Inv-loop marks nexts t square area₀ columns₀ rank₀ area columns rank =
+Inv-loop marks square nexts t area₀ columns₀ rank₀ area columns rank =
     Filled (alone-in (tableOf (t .states) (t .symbols) (t .start) marks nexts)) rank columns × (length area ≡ horizon stateLimit)
 
 abbrev μ-loop : tie.MeasureT-loop
-μ-loop marks nexts t square area₀ columns₀ rank₀ area columns rank = kinds - rank
-
-distances-requires : tie.Need-distances-requires Inv-loop μ-loop
-distances-requires c κs = search needs
+μ-loop marks square nexts t area₀ columns₀ rank₀ area columns rank = kinds - rank
 
 scratch-requires : tie.Need-scratch-requires Inv-loop μ-loop
 scratch-requires c κs = search needs
 
+slice-aggregate-column-of : tie.Need-slice-aggregate-column-of Inv-loop μ-loop
+slice-aggregate-column-of c = search needs
+
+column-of-requires : tie.Need-column-of-requires Inv-loop μ-loop
+column-of-requires c κs =
+    let s = c .before .before .before .before in
+    (s .pre .0, s .pre .1, search needs, c .before .scratch .ensures)
+
 loop-holds : tie.Need-loop-holds Inv-loop μ-loop
 loop-holds c =
-    let a = c .before .before .before .before .args in
-    (filled-none (alone-in (monitorIn (a .t) (a .marks) (a .nexts))) _, c .scratch .ensures)
+    let a = c .before .before .before .before .before .before .args in
+    let e = c .before .column-of .ensures in
+    (filled-one (alone-in (monitorIn (a .t) (a .marks) (a .nexts))) _ (e .0), e .1)
 
-empty-requires : tie.Need-empty-requires Inv-loop μ-loop
-empty-requires c κs = search needs
+slice-aggregate-column-of-2 : tie.Need-slice-aggregate-column-of-2 Inv-loop μ-loop
+slice-aggregate-column-of-2 c = search needs
 
-kind-at-requires : tie.Need-kind-at-requires Inv-loop μ-loop
-kind-at-requires c κs = search needs
-
-with-requires : tie.Need-with-requires Inv-loop μ-loop
-with-requires c κs = search needs
-
-slice-aggregate-finding-in : tie.Need-slice-aggregate-finding-in Inv-loop μ-loop
-slice-aggregate-finding-in c = search needs
-
-finding-in-requires : tie.Need-finding-in-requires Inv-loop μ-loop
-finding-in-requires c κs =
-    (c .before .before .before .before .before .before .before .before .before .before .before .pre, c .before .before .before .before .before .before .before .before .distances .ensures, c .before .before .before .before .before .before .loop .inv .1)
+column-of-requires-2 : tie.Need-column-of-requires-2 Inv-loop μ-loop
+column-of-requires-2 c κs =
+    let s = c .before .before .before .before .before .before .before .before .before in
+    (s .pre .0, s .pre .1, c .before .loop-test .taken, c .before .before .loop .inv .1)
 
 mul-columns : tie.Need-mul-columns Inv-loop μ-loop
 mul-columns c = search needs
@@ -61,16 +58,11 @@ loop-less c = search needs
 
 loop-again : tie.Need-loop-again Inv-loop μ-loop
 loop-again c =
-    let a = c .before .before .before .before .before .before .before .before .before .before .before .before .before .args in
-    let at = c .before .before .before .before .before .before .before .before .loop in
-    let m = monitorIn (a .t) (a .marks) (a .nexts) in
-    let e = c .before .finding-in .ensures in
-    let one = alone m (at .rank) (c .before .before .before .before .before .kind-at .result) (c .before .before .before .before .before .kind-at .ensures) (c .before .before .before .before .before .before .empty .ensures) (c .before .before .before .before .with .ensures) (e .0) in
-    (filled-more _ (at .inv .0) (c .before .before .before .before .before .before .before .loop-test .taken) one, e .1)
+    let e = c .before .column-of2 .ensures in
+    (filled-more _ (c .before .before .before .before .loop .inv .0) (c .before .before .before .loop-test .taken) (e .0), e .1)
 
 returns : tie.Need-returns Inv-loop μ-loop
-returns c =
-    filled-all (c .before .loop .inv .0) (c .loop-test .left)
+returns c = filled-all (c .before .loop .inv .0) (c .loop-test .left)
 
 pub columns-of-spec : {M : Type 1} → statement M
 columns-of-spec =
@@ -78,14 +70,12 @@ columns-of-spec =
     (tie.spec
     Inv-loop
     μ-loop
-    distances-requires
     scratch-requires
+    slice-aggregate-column-of
+    column-of-requires
     loop-holds
-    empty-requires
-    kind-at-requires
-    with-requires
-    slice-aggregate-finding-in
-    finding-in-requires
+    slice-aggregate-column-of-2
+    column-of-requires-2
     mul-columns
     array-set-from-columns
     add-rank

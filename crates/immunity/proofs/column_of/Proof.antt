@@ -1,0 +1,44 @@
+-- `column_of` meets its contract.
+use mathlib.Core.Path.{sym}
+use native.Mathlib.Nat.{le-of-eq}
+use borrow.Author.Needs.{needs}
+use Rattle.monitor.specs.Opening.{monitorIn}
+use Rattle.immunity.proofs.Tables.{marks-answer, alone}
+use Rattle.immunity.proofs.column_of.Statement.{statement}
+use Rattle.immunity.proofs.column_of.Tie as tie
+
+empty-requires : tie.Need-empty-requires
+empty-requires c κs = search needs
+
+kind-at-requires : tie.Need-kind-at-requires
+kind-at-requires c κs = search needs
+
+with-requires : tie.Need-with-requires
+with-requires c κs = search needs
+
+examine-set-requires : tie.Need-examine-set-requires
+examine-set-requires c κs =
+    let p = c .before .before .before .before .before .before .before .pre in
+    record { rows = p .0 .rows; outputs = p .0 .marks-length; start-in = p .0 .well-formed .start-in; squared = p .1 }
+
+same-length : tie.Need-same-length
+same-length c = search needs
+
+returns : tie.Need-returns
+returns c =
+    let s = c .before .before .before .before .before .before .before .before .before .before in
+    let a = s .args in
+    let e = marks-answer (s .pre .0) (c .before .before .before .before .with .result .bits) _ (le-of-eq (sym (s .pre .3))) (c .before .before .examine-set .ensures .0) in
+    let kind = c .before .before .before .before .before .kind-at in
+    (alone (monitorIn (a .t) (a .marks) (a .nexts)) (a .rank) (kind .result) (kind .ensures) (c .before .before .before .before .before .before .empty .ensures) (c .before .before .before .before .with .ensures) e, search needs)
+
+pub column-of-spec : {M : Type 1} → statement M
+column-of-spec =
+    tie.close
+    (tie.spec
+    empty-requires
+    kind-at-requires
+    with-requires
+    examine-set-requires
+    same-length
+    returns)
