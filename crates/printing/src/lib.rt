@@ -130,12 +130,13 @@ pub fn traced(answer: Traced) {
 }
 
 fn witness(w: Witness) {
+    let kind = w.kind;
     text(b"vulnerable distance ");
     number(w.distance);
     text(b" before ");
     number(w.before);
     text(b" kind ");
-    number(FaultSet::bit_of(w.kind));
+    number(FaultSet::bit_of(kind));
     text(b" replacement ");
     number(w.replacement);
     text(b" readings ");
