@@ -1,4 +1,5 @@
-// Answers one question: the question as arguments, the body or the collection on standard input, the answer as one line on standard output.
+// Answers one question: the question as arguments, the body or the collection on standard input, the answer as one
+// line on standard output.
 use arguments::Decimal;
 use basics::Refusal;
 use classes::Classification;
@@ -10,7 +11,8 @@ ghost use lib.ListN.{length as List·length};
 // The length of the program's own area, which every answer fits.
 const AREA_SIZE: usize = 65536;
 
-// The greatest number of messages in a trace: more than Linux hands over as arguments by its default limit of two million bytes.
+// The greatest number of messages in a trace: more than Linux hands over as arguments by its default limit of two
+// million bytes.
 const MESSAGE_LIMIT: usize = 262144;
 
 // A question and its numbers. The messages of a trace stand in an array of their own.
@@ -215,15 +217,23 @@ fn answer_line(question: Question, messages: &[u8]) {
     printing::text(b"\n");
 }
 
+fn usage() {
+    io::write_all(
+        libc::STDERR_FILENO,
+        b"usage: ask judge | classes AREA | step READING STATE MESSAGE | trace READING MESSAGE..",
+    );
+    io::write_all(
+        libc::STDERR_FILENO,
+        b" | fault SET READING AREA | collection, with the body or collection on standard input\n",
+    );
+}
+
 fn main() {
     let mut messages = [0u8; MESSAGE_LIMIT];
     match read_arguments(os::arg_count(), &mut messages) {
         Asked::Clear(question) => answer_line(question, &messages),
         Asked::Unclear => {
-            io::write_all(
-                libc::STDERR_FILENO,
-                b"usage: ask judge | classes AREA | step READING STATE MESSAGE | trace READING MESSAGE.. | fault SET READING AREA | collection, with the body or collection on standard input\n",
-            );
+            usage();
         }
         Asked::LongTrace => {
             io::write_all(libc::STDERR_FILENO, b"ask: more than 262144 messages\n");

@@ -61,7 +61,8 @@ fn missing(number: usize) {
     printing::text(b": not in the collection\n");
 }
 
-// Prints a line for argument i if it is still wanted, after an empty line where gap says so. Answers whether the empty line is still to come.
+// Prints a line for argument i if it is still wanted, after an empty line where gap says so. Answers whether the
+// empty line is still to come.
 fn missing_line(wanted: &mut [u8], i: usize, gap: bool) -> bool {
     let Decimal::Number(number) = number_at(i) else {
         return gap;
@@ -76,7 +77,8 @@ fn missing_line(wanted: &mut [u8], i: usize, gap: bool) -> bool {
     false
 }
 
-// These lines, once for each number, in the order of the arguments, with an empty line between the cards and the first of them.
+// These lines, once for each number, in the order of the arguments, with an empty line between the cards and the
+// first of them.
 pub fn missing_lines(wanted: &mut [u8], cards: bool) {
     let count = os::arg_count();
     let mut gap = cards;

@@ -5,7 +5,8 @@ ghost use lib.ListN.{length};
 // The last place of those from `at` on that hold what `at` holds.
 pub fn last_alike(bytes: &[u8], at: usize) -> usize
     requires { ⌜ at < length (now bytes) ⌝ }
-    ensures { λ r. ⌜ (at ≤ r) × (r < length (now (bytes .entry))) ⌝ }
+    ensures { λ r. ⌜ (at ≤ r)
+        × (r < length (now (bytes .entry))) ⌝ }
 {
     let byte = bytes[at];
     let mut last = at;

@@ -1,4 +1,5 @@
-// The states of each class, a line for each class that has some. Three or more in a row are written as the first and the last.
+// The states of each class, a line for each class that has some. Three or more in a row are written as the first and
+// the last.
 use crate::runs;
 ghost use Prim.Native.Nat.{_≤_, _<_};
 
@@ -14,7 +15,8 @@ fn class_name(class: u8) {
 
 // Makes room for so many columns behind those in use: a full line is ended. Answers the columns then in use.
 fn make_room(used: usize, columns: usize) -> usize
-    requires { ⌜ (used < 100) × (columns < 100) ⌝ }
+    requires { ⌜ (used < 100)
+        × (columns < 100) ⌝ }
     ensures { λ r. ⌜ r < 100 ⌝ }
 {
     if used + columns > COLUMNS {
@@ -26,7 +28,8 @@ fn make_room(used: usize, columns: usize) -> usize
 
 // The states from the first to the last, which are different.
 fn several(first: usize, last: usize, used: usize) -> usize
-    requires { ⌜ (first ≤ last) × (used < 100) ⌝ }
+    requires { ⌜ (first ≤ last)
+        × (used < 100) ⌝ }
     ensures { λ r. ⌜ r < 100 ⌝ }
 {
     let in_use = make_room(used, 7);
@@ -43,7 +46,8 @@ fn several(first: usize, last: usize, used: usize) -> usize
 
 // The states from the first to the last, if their class is asked for.
 fn states(asked: bool, first: usize, last: usize, used: usize) -> usize
-    requires { ⌜ (first ≤ last) × (used < 100) ⌝ }
+    requires { ⌜ (first ≤ last)
+        × (used < 100) ⌝ }
     ensures { λ r. ⌜ r < 100 ⌝ }
 {
     if !asked {

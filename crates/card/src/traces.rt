@@ -1,5 +1,5 @@
-// A witness drawn as two traces, the sent one above the received one, message under message. What the fault strikes stands in brackets.
-// Six or more equal messages in a row, apart from the fault, are written once with their number.
+// A witness drawn as two traces, the sent one above the received one, message under message. What the fault strikes
+// stands in brackets. Six or more equal messages in a row, apart from the fault, are written once with their number.
 use crate::runs;
 use crate::words;
 use faults::Fault;
@@ -68,8 +68,9 @@ fn together(messages: &[u8], at: usize) -> usize
     1
 }
 
-// A drawing has a place for each message before the fault (head), one for the fault, and one for each message behind it (rest).
-// An item of it is the fault, a message, or equal messages in a row: how many places the item from place i on has.
+// A drawing has a place for each message before the fault (head), one for the fault, and one for each message behind
+// it (rest). An item of it is the fault, a message, or equal messages in a row: how many places the item from place i
+// on has.
 fn item_size(head: &[u8], rest: &[u8], i: usize) -> usize
     ensures { λ r. ⌜ 0 < r ⌝ }
 {
@@ -125,7 +126,8 @@ fn item(head: &[u8], rest: &[u8], here: Symbols, other: Symbols, i: usize, size:
 // As many items as a line takes, from a place on. Answers the place where the next line begins.
 fn items(head: &[u8], rest: &[u8], here: Symbols, other: Symbols, from: usize, end: usize) -> usize
     requires { ⌜ from < end ⌝ }
-    ensures { λ r. ⌜ (from < r) × (r ≤ end) ⌝ }
+    ensures { λ r. ⌜ (from < r)
+        × (r ≤ end) ⌝ }
 {
     let mut used = 0;
     let mut i = from;
@@ -173,7 +175,8 @@ fn line_end(last: bool, domain: usize, reading: usize) {
     printing::text(b"\n");
 }
 
-// A line of the sent trace and one of the received trace, from a place on. Answers the place where the next lines begin.
+// A line of the sent trace and one of the received trace, from a place on. Answers the place where the next lines
+// begin.
 fn two_lines(
     head: &[u8],
     rest: &[u8],
@@ -184,7 +187,8 @@ fn two_lines(
     domain: usize,
 ) -> usize
     requires { ⌜ from < end ⌝ }
-    ensures { λ r. ⌜ (from < r) × (r ≤ end) ⌝ }
+    ensures { λ r. ⌜ (from < r)
+        × (r ≤ end) ⌝ }
 {
     sent_margin(from);
     let to = items(head, rest, fault.sent, fault.received, from, end);

@@ -3,8 +3,8 @@ use basics::Refusal;
 use faults::Kind;
 use immunity::Finding;
 
-// The no to a question of a body, in words: 1 to 8. The last line is never used, since the areas here are as long as any
-// answer.
+// The no to a question of a body, in words: 1 to 8. The last line is never used, since the areas here are as long as
+// any answer.
 fn body_question(number: usize) {
     match number {
         1 => printing::text(b"shorter than 3 bytes"),

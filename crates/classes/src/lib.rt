@@ -16,7 +16,8 @@ ghost use Rattle.state_set.specs.Member.{Exactly};
 ghost use Rattle.monitor.specs.Format.{Rows, graph, monitorOf};
 ghost use Rattle.monitor.specs.Opening.{monitorIn, TableIn};
 ghost use Rattle.classes.specs.Sets.{hasMark, classBy, monitorabilityBy};
-ghost use Rattle.classes.specs.Classify.{classList, classifyQuestions, classifyFigures, classifyAnswer, classification};
+ghost use Rattle.classes.specs.Classify.{classList, classifyQuestions, classifyFigures};
+ghost use Rattle.classes.specs.Classify.{classifyAnswer, classification};
 
 pub enum Classification {
     Classified {
@@ -130,7 +131,8 @@ fn write_classes(marks: &[u8], outlook: Outlook, area: &mut [u8])
     }
 }
 
-// The monitorability by the states reached and the class of the start. A state that can reach neither true nor false is ugly.
+// The monitorability by the states reached and the class of the start. A state that can reach neither true nor false
+// is ugly.
 fn monitorability_by(marks: &[u8], outlook: Outlook, reached: StateSet, start: usize) -> usize
     requires { ⌜ start < length (now marks) ⌝ }
     ensures { λ r. ⌜ r

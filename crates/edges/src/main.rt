@@ -52,7 +52,8 @@ fn sizes() {
     judge(b"start = n: ", b"\x02\x02\x02\x00\x01\x00\x01\x01\x01");
 }
 
-// A body of n states and k symbols whose marks and next states are 0, and what stands behind it up to the greatest length.
+// A body of n states and k symbols whose marks and next states are 0, and what stands behind it up to the greatest
+// length.
 fn blank(n: u8, k: u8) -> [u8; 1091]
     ensures { λ r. ⌜ length r ≡ 1091 ⌝ }
 {

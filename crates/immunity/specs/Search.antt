@@ -1,4 +1,5 @@
--- What the functions below the entry points are handed, and what they answer: over outputs of states, whatever the reading.
+-- What the functions below the entry points are handed, and what they answer: over outputs of states, whatever the
+-- reading.
 use mathlib.Core.Path.{_≡_}
 use mathlib.Core.List.{List}
 use mathlib.Core.Option.{Option}

@@ -59,7 +59,8 @@ pub struct Column {
     pub finding: Finding,
 }
 
-// What the listing shows of a table. Its columns go by the ranks of the faults; each is a refusal where the table is refused.
+// What the listing shows of a table. Its columns go by the ranks of the faults; each is a refusal where the table is
+// refused.
 pub struct LinkCard {
     pub summary: Summary,
     pub columns: [Column; KINDS],
@@ -197,8 +198,8 @@ fn examine_table(
     examine_reading(marks, nexts, t, FaultSet::of(set), domain, area)
 }
 
-// The fault question: whether one fault of the set can change what a trace of the table reads, by marks (domain 3) or by
-// classes (domain 6). The sent trace of a witness goes into the area, which is otherwise left as it was.
+// The fault question: whether one fault of the set can change what a trace of the table reads, by marks (domain 3) or
+// by classes (domain 6). The sent trace of a witness goes into the area, which is otherwise left as it was.
 pub fn examine(body: &[u8], set: usize, domain: usize, area: &mut [u8]) -> Finding
     ensures figures { λ r. ⌜ finding r
         ≡ faultAnswer stateLimit (now (body .entry)) set domain (length (now (area .entry))) ⌝ }

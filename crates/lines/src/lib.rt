@@ -62,7 +62,8 @@ fn put_figure(n: usize, buffer: &mut [u8], at: usize) -> usize
 // A space and the word for a monitorability.
 fn put_monitorability(monitorability: usize, buffer: &mut [u8], at: usize) -> usize
     requires { ⌜ at + 5 ≤ length (now buffer) ⌝ }
-    ensures { λ r. ⌜ Put (ascii " " ++ monitorabilityText monitorability) (now (buffer .entry)) at (now (buffer .exit)) r
+    ensures { λ r. ⌜ Put (ascii " " ++ monitorabilityText monitorability) (now (buffer .entry)) at
+        (now (buffer .exit)) r
         × (r ≤ at + 5) ⌝ }
 {
     match monitorability {
@@ -126,7 +127,8 @@ fn put_card(
 ) -> usize
     requires { ⌜ (length columns ≡ kinds)
         × (lineRoom ≤ length (now buffer)) ⌝ }
-    ensures { λ r. ⌜ Put (shownLine rule states monitorability columns) (now (buffer .entry)) 0 (now (buffer .exit)) r ⌝ }
+    ensures { λ r. ⌜ Put (shownLine rule states monitorability columns) (now (buffer .entry)) 0
+        (now (buffer .exit)) r ⌝ }
 {
     let mut at = put_number(rule, buffer, 0);
     at = put_figure(states, buffer, at);
@@ -151,7 +153,8 @@ fn put_refusal(rule: usize, refusal: Refusal, buffer: &mut [u8]) -> usize
 // The line of a rule with its body.
 fn put_rule(rule: usize, body: &[u8], buffer: &mut [u8]) -> usize
     requires { ⌜ lineRoom ≤ length (now buffer) ⌝ }
-    ensures { λ r. ⌜ Put (ruleLine stateLimit rule (now (body .entry))) (now (buffer .entry)) 0 (now (buffer .exit)) r ⌝ }
+    ensures { λ r. ⌜ Put (ruleLine stateLimit rule (now (body .entry))) (now (buffer .entry)) 0
+        (now (buffer .exit)) r ⌝ }
 {
     let card = immunity::card(body);
     let summary = card.summary;

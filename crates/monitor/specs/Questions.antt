@@ -1,4 +1,5 @@
--- The questions on the way in, each with its number and place. Those about a body are asked of a list of numbers, bytes or not.
+-- The questions on the way in, each with its number and place. Those about a body are asked of a list of numbers,
+-- bytes or not.
 use mathlib.Core.Bool.{Bool, _&&_, _||_, not}
 use mathlib.Core.List.{List, [], _∷_, _++_}
 use Prim.Native.Nat.{ℕ, _+_, _*_, _/_}
@@ -49,7 +50,8 @@ question4 b = record { yes = eqb (length b) (3 + statesOf b + statesOf b * symbo
 abbrev pub question5 : List ℕ → Question
 question5 b = record { yes = ltb (startOf b) (statesOf b); number = 5; place = 2 }
 
--- a question of every number of a list: `wrong` is the index of the first no, or the size; the list stands from `offset` on
+-- a question of every number of a list: `wrong` is the index of the first no, or the size; the list stands from
+-- `offset` on
 abbrev pub ofEach : ℕ → ℕ → ℕ → ℕ → Question
 ofEach number offset wrong size = record { yes = eqb wrong size; number = number; place = offset + wrong }
 
@@ -61,7 +63,8 @@ question6 b = ofEach 6 3 (firstNotBelow 3 (drawnMarks b)) (length (drawnMarks b)
 abbrev pub question7 : List ℕ → Question
 question7 b = ofEach 7 (3 + statesOf b) (firstNotBelow (statesOf b) (nexts b)) (length (nexts b))
 
--- "Does a state marked true step only to such states, and likewise false, unreachable states included? 8, place the first wrong next-state byte."
+-- "Does a state marked true step only to such states, and likewise false, unreachable states included? 8, place the
+-- first wrong next-state byte."
 abbrev pub question8 : List ℕ → Question
 question8 b = ofEach 8 (3 + statesOf b) (firstRevoking (drawnMarks b) (nexts b) (symbolsOf b)) (length (nexts b))
 

@@ -9,9 +9,10 @@ ghost use lib.ListN.{length, getD, take, drop};
 ghost use Rattle.theory.specs.Below.{first};
 ghost use Rattle.theory.specs.Monitor.{stateLimit};
 ghost use Rattle.theory.specs.Answer.{Answer, asks};
-ghost use Rattle.monitor.specs.Format.{drawnMarks, nexts, Rows, automatonOf};
+ghost use Rattle.monitor.specs.Format.{drawnMarks, nexts, Rows, graph};
 ghost use Rattle.monitor.specs.Opening.{Opens};
-ghost use Rattle.monitor.specs.Questions.{firstNotBelow, revokes, firstRevoking, headQuestions, rowQuestions, judgement, judgeAnswer};
+ghost use Rattle.monitor.specs.Questions.{firstNotBelow, revokes, firstRevoking};
+ghost use Rattle.monitor.specs.Questions.{headQuestions, rowQuestions, judgement, judgeAnswer};
 
 pub enum Judgement {
     Accepted,
@@ -53,7 +54,8 @@ pub fn first_not_below(bytes: &[u8], bound: u8) -> usize
 
 // The index of the first next state of q that gives up the verdict of q, or the end of q's row.
 fn first_revoking_row(marks: &[u8], nexts: &[u8], k: usize, q: usize) -> usize
-    requires { ⌜ Rows stateLimit (length (now marks)) k (now nexts) × (q < length (now marks)) ⌝ }
+    requires { ⌜ Rows stateLimit (length (now marks)) k (now nexts)
+        × (q < length (now marks)) ⌝ }
     ensures { λ r. ⌜ r ≡ first (revokes (now (marks .entry)) (now (nexts .entry)) k) (q * k) k ⌝ }
 {
     let end = q * k + k;
@@ -193,8 +195,11 @@ pub fn open(body: &[u8], marks: &mut [u8]) -> Opened
 
 // The successor of state q under symbol a.
 pub fn successor(nexts: &[u8], n: usize, k: usize, q: usize, a: usize) -> usize
-    requires { ⌜ Rows stateLimit n k (now nexts) × (q < n) × (a < k) ⌝ }
-    ensures { λ r. ⌜ (r ≡ automatonOf n k (now (nexts .entry)) .next q a) × (r < n) ⌝ }
+    requires { ⌜ Rows stateLimit n k (now nexts)
+        × (q < n)
+        × (a < k) ⌝ }
+    ensures next { λ r. ⌜ r ≡ graph n k (nexts .entry) .next q a ⌝ }
+    ensures inside { λ r. ⌜ r < n ⌝ }
 {
     nexts[q * k + a] as usize
 }

@@ -1,5 +1,5 @@
-// The words and lines that programs print. No contract can say what is written; the output of programs is compared with a
-// stored one.
+// The words and lines that programs print. No contract can say what is written; the output of programs is compared
+// with a stored one.
 use basics::Refusal;
 use classes::Classification;
 use collection::Collected;

@@ -1,6 +1,6 @@
 // Answers questions from standard input, a line each, for a test outside that has answers of its own to compare.
-// A question is a frame: the length of what follows in two bytes, least byte first; the call; three numbers, a byte each;
-// and the call's bytes.
+// A question is a frame: the length of what follows in two bytes, least byte first; the call; three numbers, a byte
+// each; and the call's bytes.
 use lines::Line;
 ghost use Prim.Native.Nat.{_+_, _≤_, _<_};
 ghost use lib.ListN.{length};
@@ -15,7 +15,8 @@ fn classify(room: usize, body: &[u8]) {
     }
 }
 
-// Call 3, and every number that names no other call: the numbers are the reading and the length of the trace, which stands before the body.
+// Call 3, and every number that names no other call: the numbers are the reading and the length of the trace, which
+// stands before the body.
 fn trace(domain: usize, length: usize, bytes: &[u8]) {
     if length <= bytes.len() {
         printing::traced(readings::trace(&bytes[length..], domain, &bytes[0..length]));
@@ -72,7 +73,8 @@ fn wide(byte: u8) -> usize
 // Where the frame at a place ends, or the end of the input if that comes first.
 fn frame_end(input: &[u8], at: usize) -> usize
     requires { ⌜ at + 2 ≤ length (now input) ⌝ }
-    ensures { λ r. ⌜ (at + 2 ≤ r) × (r ≤ length (now (input .entry))) ⌝ }
+    ensures { λ r. ⌜ (at + 2 ≤ r)
+        × (r ≤ length (now (input .entry))) ⌝ }
 {
     let size = wide(input[at]) + 256 * wide(input[at + 1]);
     let left = input.len() - (at + 2);

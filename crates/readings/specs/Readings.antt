@@ -34,7 +34,8 @@ traceFigures d w m = reading m d (run (m .automaton) (m .start) w) ∷ []
 
 -- the answer of a trace
 unfoldable pub traceAnswer : ℕ → List ℕ → ℕ → List ℕ → Answer
-traceAnswer limit b d w = asks (tableQuestions limit b ++ traceQuestions d w (monitorOf b)) (traceFigures d w (monitorOf b))
+traceAnswer limit b d w =
+    asks (tableQuestions limit b ++ traceQuestions d w (monitorOf b)) (traceFigures d w (monitorOf b))
 
 -- 01's numbers of the two answers
 abbrev pub stepped : Stepped → Answer

@@ -16,7 +16,8 @@ ghost use Rattle.theory.specs.Monitor.{reading, stateLimit};
 ghost use Rattle.monitor.specs.Format.{Rows, graph};
 ghost use Rattle.monitor.specs.Opening.{monitorIn, TableIn};
 ghost use Rattle.monitor.specs.Questions.{firstNotBelow};
-ghost use Rattle.readings.specs.Readings.{stepQuestions, stepFigures, stepAnswer, stepped, traceQuestions, traceFigures, traceAnswer, traced};
+ghost use Rattle.readings.specs.Readings.{stepQuestions, stepFigures, stepAnswer, stepped};
+ghost use Rattle.readings.specs.Readings.{traceQuestions, traceFigures, traceAnswer, traced};
 
 // Where a step leads, and what is read there.
 pub enum Stepped {

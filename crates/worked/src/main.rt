@@ -143,7 +143,8 @@ fn immune() {
     );
 }
 
-// Question 13, and questions 9 and 10 in this order after those of the body. Numbers that do not fit a byte are not cut.
+// Question 13, and questions 9 and 10 in this order after those of the body. Numbers that do not fit a byte are not
+// cut.
 fn refusals() {
     let e = b"\x03\x02\x00\x00\x00\x01\x00\x01\x00\x02\x02\x02";
     let swap = FaultSet::empty().with(Kind::Swap).number();
