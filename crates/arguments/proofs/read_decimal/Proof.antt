@@ -23,20 +23,11 @@ returns c = reads-empty _ (c .if1 .taken)
 loop-holds : tie.Need-loop-holds Inv-loop μ-loop
 loop-holds c = reads-nothing _
 
-shared-slice-read-is-digit : tie.Need-shared-slice-read-is-digit Inv-loop μ-loop
-shared-slice-read-is-digit c = search needs
-
-is-digit-requires : tie.Need-is-digit-requires Inv-loop μ-loop
-is-digit-requires c κs = search needs
-
 returns-2 : tie.Need-returns-2 Inv-loop μ-loop
 returns-2 c =
     let d = c .before .is-digit in
     reads-other (c .before .before .before .before .loop .inv) (c .before .before .before .loop-test .taken)
     (sym (d .ensures) ∙ not-true (d .result) (c .if2 .taken))
-
-shared-slice-read-digit : tie.Need-shared-slice-read-digit Inv-loop μ-loop
-shared-slice-read-digit c = search needs
 
 -- past the test the byte is a digit
 digit : (c : tie.After-shared-slice-known3 Inv-loop μ-loop)
@@ -56,15 +47,6 @@ mul-least-of c = omega (arith, c .before .before .before .before .before .loop .
 add-least-of : tie.Need-add-least-of Inv-loop μ-loop
 add-least-of c = (let at = c .before .before .before .before .before .loop in omega (arith, at .inv .small, c .shared-slice-known3 .given (at .i)))
 
-least-of-requires : tie.Need-least-of-requires Inv-loop μ-loop
-least-of-requires c κs = search needs
-
-add-i : tie.Need-add-i Inv-loop μ-loop
-add-i c = search needs
-
-loop-less : tie.Need-loop-less Inv-loop μ-loop
-loop-less c = search needs
-
 loop-again : tie.Need-loop-again Inv-loop μ-loop
 loop-again c =
     let at = c .before .before .before .before .before in
@@ -75,5 +57,5 @@ returns-3 c = reads-all (c .before .loop .inv) (omega (arith, c .before .before 
 
 pub read-decimal-spec : {M : Type 1} → statement M
 read-decimal-spec =
-    tie.close (tie.spec Inv-loop μ-loop returns loop-holds shared-slice-read-is-digit is-digit-requires returns-2 shared-slice-read-digit sub-digit
-    cast-digit mul-least-of add-least-of least-of-requires add-i loop-less loop-again returns-3)
+    tie.close (tie.spec Inv-loop μ-loop returns loop-holds (λ c. search needs) (λ c κs. search needs) returns-2 (λ c. search needs) sub-digit cast-digit
+    mul-least-of add-least-of (λ c κs. search needs) (λ c. search needs) (λ c. search needs) loop-again returns-3)

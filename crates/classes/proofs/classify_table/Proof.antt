@@ -16,24 +16,6 @@ use Rattle.classes.proofs.classify_table.Tie as tie
 returns : tie.Need-returns
 returns c = (rw (lt-leb _ _ (c .if1 .taken)), refl)
 
-outlook-of-requires : tie.Need-outlook-of-requires
-outlook-of-requires c κs = search needs
-
-reachable-requires : tie.Need-reachable-requires
-reachable-requires c κs = search needs
-
-write-classes-requires : tie.Need-write-classes-requires
-write-classes-requires c κs = search needs
-
-monitorability-by-requires : tie.Need-monitorability-by-requires
-monitorability-by-requires c κs = search needs
-
-count-requires : tie.Need-count-requires
-count-requires c κs = search needs
-
-same-length : tie.Need-same-length
-same-length c = search needs
-
 returns-2 : tie.Need-returns-2
 returns-2 c =
     let start = c .before .before .before .before .before .before .before .before .before .before .before .before in
@@ -53,13 +35,5 @@ returns-2 c =
 
 pub classify-table-spec : {M : Type 1} → statement M
 classify-table-spec =
-    tie.close
-    (tie.spec
-    returns
-    outlook-of-requires
-    reachable-requires
-    write-classes-requires
-    monitorability-by-requires
-    count-requires
-    same-length
-    returns-2)
+    tie.close (tie.spec returns (λ c κs. search needs) (λ c κs. search needs) (λ c κs. search needs) (λ c κs. search needs) (λ c κs. search needs) (λ c.
+    search needs) returns-2)

@@ -5,43 +5,19 @@ use Rattle.collection.proofs.Order.{short, many, entries-cut, unsorted,
 use Rattle.collection.proofs.judge.Statement.{statement}
 use Rattle.collection.proofs.judge.Tie as tie
 
-refused-requires : tie.Need-refused-requires
-refused-requires c κs = search needs
-
 returns : tie.Need-returns
 returns c = c .refused .ensures ∙ sym (short _ (c .before .if1 .taken))
-
-two-bytes-at-requires : tie.Need-two-bytes-at-requires
-two-bytes-at-requires c κs = search needs
-
-refused-requires-2 : tie.Need-refused-requires-2
-refused-requires-2 c κs = search needs
 
 returns-2 : tie.Need-returns-2
 returns-2 c =
     let q20 = c .before .before .before in
     c .refused2 .ensures ∙ sym (many _ (q20 .if1 .left) (c .before .before .two-bytes-at .ensures .0) (c .before .if2 .taken))
 
-mul-if3 : tie.Need-mul-if3
-mul-if3 c = search needs
-
-add-if3 : tie.Need-add-if3
-add-if3 c = search needs
-
-refused-requires-3 : tie.Need-refused-requires-3
-refused-requires-3 c κs = search needs
-
 returns-3 : tie.Need-returns-3
 returns-3 c =
     let q20 = c .before .before .before .before in
     c .refused3 .ensures
     ∙ sym (entries-cut _ (q20 .if1 .left) (c .before .before .before .two-bytes-at .ensures .0) (c .before .before .if2 .left) (c .before .if3 .taken))
-
-first-no-requires : tie.Need-first-no-requires
-first-no-requires c κs = search needs
-
-refused-requires-4 : tie.Need-refused-requires-4
-refused-requires-4 c κs = search needs
 
 returns-4 : tie.Need-returns-4
 returns-4 c =
@@ -51,12 +27,6 @@ returns-4 c =
     ∙ sym (unsorted _ (q20 .if1 .left) (q22 .before .before .two-bytes-at .ensures .0) (q22 .before .if2 .left) (q22 .if3 .left)
     (c .before .before .first-no .ensures) (c .before .if4 .taken))
 
-first-no-requires-2 : tie.Need-first-no-requires-2
-first-no-requires-2 c κs = search needs
-
-refused-requires-5 : tie.Need-refused-requires-5
-refused-requires-5 c κs = search needs
-
 returns-5 : tie.Need-returns-5
 returns-5 c =
     let q23 = c .before .before .before in
@@ -65,12 +35,6 @@ returns-5 c =
     c .refused5 .ensures
     ∙ sym (misplaced _ (q20 .if1 .left) (q22 .before .before .two-bytes-at .ensures .0) (q22 .before .if2 .left) (q22 .if3 .left)
     (q23 .before .first-no .ensures) (q23 .if4 .left) (c .before .before .first-no2 .ensures) (c .before .if5 .taken))
-
-start-of-body-requires : tie.Need-start-of-body-requires
-start-of-body-requires c κs = search needs
-
-refused-requires-6 : tie.Need-refused-requires-6
-refused-requires-6 c κs = search needs
 
 returns-6 : tie.Need-returns-6
 returns-6 c =
@@ -94,6 +58,6 @@ returns-7 c =
 
 pub judge-spec : {M : Type 1} → statement M
 judge-spec =
-    tie.close (tie.spec refused-requires returns two-bytes-at-requires refused-requires-2 returns-2 mul-if3 add-if3 refused-requires-3 returns-3
-    first-no-requires refused-requires-4 returns-4 first-no-requires-2 refused-requires-5 returns-5 start-of-body-requires refused-requires-6 returns-6
-    returns-7)
+    tie.close (tie.spec (λ c κs. search needs) returns (λ c κs. search needs) (λ c κs. search needs) returns-2 (λ c. search needs) (λ c. search needs) (λ c
+    κs. search needs) returns-3 (λ c κs. search needs) (λ c κs. search needs) returns-4 (λ c κs. search needs) (λ c κs. search needs) returns-5 (λ c κs.
+    search needs) (λ c κs. search needs) returns-6 returns-7)

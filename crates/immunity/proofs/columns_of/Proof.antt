@@ -20,44 +20,14 @@ Inv-loop marks nexts t square area₀ columns₀ rank₀ area columns rank =
 abbrev μ-loop : tie.MeasureT-loop
 μ-loop marks nexts t square area₀ columns₀ rank₀ area columns rank = kinds - rank
 
-distances-requires : tie.Need-distances-requires Inv-loop μ-loop
-distances-requires c κs = search needs
-
-scratch-requires : tie.Need-scratch-requires Inv-loop μ-loop
-scratch-requires c κs = search needs
-
 loop-holds : tie.Need-loop-holds Inv-loop μ-loop
 loop-holds c =
     let a = c .before .before .before .before .args in
     (filled-none (alone-in (monitorIn (a .t) (a .marks) (a .nexts))) _, c .scratch .ensures)
 
-empty-requires : tie.Need-empty-requires Inv-loop μ-loop
-empty-requires c κs = search needs
-
-kind-at-requires : tie.Need-kind-at-requires Inv-loop μ-loop
-kind-at-requires c κs = search needs
-
-with-requires : tie.Need-with-requires Inv-loop μ-loop
-with-requires c κs = search needs
-
-slice-aggregate-finding-in : tie.Need-slice-aggregate-finding-in Inv-loop μ-loop
-slice-aggregate-finding-in c = search needs
-
 finding-in-requires : tie.Need-finding-in-requires Inv-loop μ-loop
 finding-in-requires c κs =
     (c .before .before .before .before .before .before .before .before .before .before .before .pre, c .before .before .before .before .before .before .before .before .distances .ensures, c .before .before .before .before .before .before .loop .inv .1)
-
-mul-columns : tie.Need-mul-columns Inv-loop μ-loop
-mul-columns c = search needs
-
-array-set-from-columns : tie.Need-array-set-from-columns Inv-loop μ-loop
-array-set-from-columns c = search needs
-
-add-rank : tie.Need-add-rank Inv-loop μ-loop
-add-rank c = search needs
-
-loop-less : tie.Need-loop-less Inv-loop μ-loop
-loop-less c = search needs
 
 loop-again : tie.Need-loop-again Inv-loop μ-loop
 loop-again c =
@@ -74,21 +44,5 @@ returns c =
 
 pub columns-of-spec : {M : Type 1} → statement M
 columns-of-spec =
-    tie.close
-    (tie.spec
-    Inv-loop
-    μ-loop
-    distances-requires
-    scratch-requires
-    loop-holds
-    empty-requires
-    kind-at-requires
-    with-requires
-    slice-aggregate-finding-in
-    finding-in-requires
-    mul-columns
-    array-set-from-columns
-    add-rank
-    loop-less
-    loop-again
-    returns)
+    tie.close (tie.spec Inv-loop μ-loop (λ c κs. search needs) (λ c κs. search needs) loop-holds (λ c κs. search needs) (λ c κs. search needs) (λ c κs.
+    search needs) (λ c. search needs) finding-in-requires (λ c. search needs) (λ c. search needs) (λ c. search needs) (λ c. search needs) loop-again returns)

@@ -9,26 +9,11 @@ use Rattle.immunity.specs.Findings.{witnessTrace, faultQuestions, tableF
 use Rattle.immunity.proofs.examine.Statement.{statement}
 use Rattle.immunity.proofs.examine.Tie as tie
 
-slice-aggregate-open : tie.Need-slice-aggregate-open
-slice-aggregate-open c = search needs
-
-open-requires : tie.Need-open-requires
-open-requires c κs = search needs
-
-enum-known-r : tie.Need-enum-known-r
-enum-known-r c = search needs
-
-enum-known-t : tie.Need-enum-known-t
-enum-known-t c = search needs
-
 array-share-prefix-marks : tie.Need-array-share-prefix-marks
 array-share-prefix-marks c = marks-lie (opened-yes stateLimit _ _ (c .before .before .before .before .«open» .ensures) (c .before .t .given .1))
 
 slice-aggregate-examine-table : tie.Need-slice-aggregate-examine-table
 slice-aggregate-examine-table c = marks-counted (opened-yes stateLimit _ _ (c .before .before .before .before .before .«open» .ensures) (c .before .before .t .given .1))
-
-next-states-requires : tie.Need-next-states-requires
-next-states-requires c κs = search needs
 
 examine-table-requires : tie.Need-examine-table-requires
 examine-table-requires c κs =
@@ -44,9 +29,6 @@ returns c =
     (faultTrace (a .body .now) (a .set) (a .domain)) area
     (opened-no stateLimit (a .body .now) _ (c .before .before .before .before .«open» .ensures) (c .before .r .given .1))
 
-same-length : tie.Need-same-length
-same-length c = search needs
-
 returns-2 : tie.Need-returns-2
 unfolding faultAnswer
 returns-2 c =
@@ -59,16 +41,5 @@ returns-2 c =
 
 pub examine-spec : {M : Type 1} → statement M
 examine-spec =
-    tie.close
-    (tie.spec
-    slice-aggregate-open
-    open-requires
-    enum-known-r
-    enum-known-t
-    array-share-prefix-marks
-    slice-aggregate-examine-table
-    next-states-requires
-    examine-table-requires
-    returns
-    same-length
-    returns-2)
+    tie.close (tie.spec (λ c. search needs) (λ c κs. search needs) (λ c. search needs) (λ c. search needs) array-share-prefix-marks
+    slice-aggregate-examine-table (λ c κs. search needs) examine-table-requires returns (λ c. search needs) returns-2)

@@ -9,19 +9,10 @@ use Rattle.immunity.proofs.Answers.{is-number, says-immune, says-no-roo
 use Rattle.immunity.proofs.examine_set.Statement.{statement}
 use Rattle.immunity.proofs.examine_set.Tie as tie
 
-costs-requires : tie.Need-costs-requires
-costs-requires c κs = search needs
-
 relax-requires : tie.Need-relax-requires
 relax-requires c κs =
     let r = c .before .costs .ensures in
     (c .before .before .before .before .before .pre .rows, record { size = r .size; most = λ p l. r .each p l .most })
-
-mul-distance : tie.Need-mul-distance
-mul-distance c = search needs
-
-array-read-distance : tie.Need-array-read-distance
-array-read-distance c = search needs
 
 returns : tie.Need-returns
 returns c =
@@ -53,9 +44,6 @@ witness-of-requires c κs =
       fits = c .before .before .before .if2 .left;
     }
 
-same-length : tie.Need-same-length
-same-length c = search needs
-
 returns-3 : tie.Need-returns-3
 returns-3 c =
     let s = c .before .before .before .before .before .before .before .before .before .before .before .before .before .before in
@@ -70,14 +58,5 @@ returns-3 c =
 
 pub examine-set-spec : {M : Type 1} → statement M
 examine-set-spec =
-    tie.close
-    (tie.spec
-    costs-requires
-    relax-requires
-    mul-distance
-    array-read-distance
-    returns
-    returns-2
-    witness-of-requires
-    same-length
-    returns-3)
+    tie.close (tie.spec (λ c κs. search needs) relax-requires (λ c. search needs) (λ c. search needs) returns returns-2 witness-of-requires (λ c. search
+    needs) returns-3)

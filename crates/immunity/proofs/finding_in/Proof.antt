@@ -11,13 +11,10 @@ examine-set-requires c κs =
     let p = c .before .before .before .before .pre in
     record { rows = p .0 .rows; outputs = p .0 .marks-length; start-in = p .0 .well-formed .start-in; squared = p .1 }
 
-same-length : tie.Need-same-length
-same-length c = search needs
-
 returns : tie.Need-returns
 returns c =
     let s = c .before .before .before .before .before .before .before in
     (marks-answer (s .pre .0) (s .args .set .bits) _ (le-of-eq (sym (s .pre .2))) (c .before .before .examine-set .ensures .0), search needs)
 
 pub finding-in-spec : {M : Type 1} → statement M
-finding-in-spec = tie.close (tie.spec examine-set-requires same-length returns)
+finding-in-spec = tie.close (tie.spec examine-set-requires (λ c. search needs) returns)

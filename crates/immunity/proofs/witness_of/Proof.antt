@@ -16,12 +16,6 @@ write-before-requires c κs =
     let leads = search-leads (s .args .set .bits) (next-of-rows (p .rows)) (p .squared) (s .pre .costs-are) (s .pre .relaxed) in
     (p .rows, leads, p .start-in, s .pre .some, s .pre .fits)
 
-mul-fault-with : tie.Need-mul-fault-with
-mul-fault-with c = search needs
-
-element-copy-out-fault-with : tie.Need-element-copy-out-fault-with
-element-copy-out-fault-with c = search needs
-
 fault-with-requires : tie.Need-fault-with-requires
 fault-with-requires c κs =
     let s = c .before .before .before .before .before .before .before .before in
@@ -113,22 +107,6 @@ returns c =
 
 pub witness-of-spec : {M : Type 1} → statement M
 witness-of-spec =
-    tie.close
-    (tie.spec
-    write-before-requires
-    mul-fault-with
-    element-copy-out-fault-with
-    fault-with-requires
-    write-symbols-requires
-    after-requires
-    after-requires-2
-    add-at
-    write-apart-requires
-    mul-t25
-    element-copy-out-t28
-    shared-slice-read-t37
-    cast-t38
-    shared-slice-read-t40
-    cast-t41
-    same-length
+    tie.close (tie.spec write-before-requires (λ c. search needs) (λ c. search needs) fault-with-requires write-symbols-requires after-requires
+    after-requires-2 add-at write-apart-requires mul-t25 element-copy-out-t28 shared-slice-read-t37 cast-t38 shared-slice-read-t40 cast-t41 same-length
     returns)

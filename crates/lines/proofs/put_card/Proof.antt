@@ -4,27 +4,6 @@ use Rattle.lines.proofs.Puts.{then, line-of}
 use Rattle.lines.proofs.put_card.Statement.{statement}
 use Rattle.lines.proofs.put_card.Tie as tie
 
-put-number-requires : tie.Need-put-number-requires
-put-number-requires c κs = search needs
-
-put-figure-requires : tie.Need-put-figure-requires
-put-figure-requires c κs = search needs
-
-put-monitorability-requires : tie.Need-put-monitorability-requires
-put-monitorability-requires c κs = search needs
-
-put-columns-requires : tie.Need-put-columns-requires
-put-columns-requires c κs = search needs
-
-slice-aggregate-put : tie.Need-slice-aggregate-put
-slice-aggregate-put c = search needs
-
-put-requires : tie.Need-put-requires
-put-requires c κs = search needs
-
-same-length : tie.Need-same-length
-same-length c = search needs
-
 returns : tie.Need-returns
 returns c =
     let s = c .before .before .before .before .before .before .before .before .before .before .before .before .before .before .before .before .before .before .before .before .before .before in
@@ -33,13 +12,5 @@ returns c =
 
 pub put-card-spec : {M : Type 1} → statement M
 put-card-spec =
-    tie.close
-    (tie.spec
-    put-number-requires
-    put-figure-requires
-    put-monitorability-requires
-    put-columns-requires
-    slice-aggregate-put
-    put-requires
-    same-length
-    returns)
+    tie.close (tie.spec (λ c κs. search needs) (λ c κs. search needs) (λ c κs. search needs) (λ c κs. search needs) (λ c. search needs) (λ c κs. search
+    needs) (λ c. search needs) returns)

@@ -9,12 +9,6 @@ use Rattle.lines.proofs.Shown.{line-refused, line-inside, line-counted,
 use Rattle.lines.proofs.write_line.Statement.{statement}
 use Rattle.lines.proofs.write_line.Tie as tie
 
-slice-aggregate-put-rule : tie.Need-slice-aggregate-put-rule
-slice-aggregate-put-rule c = search needs
-
-put-rule-requires : tie.Need-put-rule-requires
-put-rule-requires c κs = search needs
-
 returns : tie.Need-returns
 returns c =
     let a = c .before .before .before .before .before .before .args in
@@ -41,9 +35,6 @@ copy-requires c κs =
     let e = line-counted stateLimit (a .rule) (a .body .now) p in
     omega (arith, e, c .before .before .if1 .left)
 
-same-length : tie.Need-same-length
-same-length c = search needs
-
 returns-2 : tie.Need-returns-2
 returns-2 c =
     let a = c .before .before .before .before .before .before .before .before .before .before .before .args in
@@ -53,13 +44,5 @@ returns-2 c =
 
 pub write-line-spec : {M : Type 1} → statement M
 write-line-spec =
-    tie.close
-    (tie.spec
-    slice-aggregate-put-rule
-    put-rule-requires
-    returns
-    array-share-prefix-buffer
-    slice-aggregate-copy
-    copy-requires
-    same-length
+    tie.close (tie.spec (λ c. search needs) (λ c κs. search needs) returns array-share-prefix-buffer slice-aggregate-copy copy-requires (λ c. search needs)
     returns-2)

@@ -36,9 +36,6 @@ returns c =
     let r = c .before .before .before .before .before .before .pre in
     rows-stop _ _ (c .before .before .before .loop .inv) (row-end r (c .before .before .loop-test .taken)) (c .before .first-revoking-row .ensures) (c .if1 .taken)
 
-add-q : tie.Need-add-q Inv-loop μ-loop
-add-q c = search needs
-
 loop-less : tie.Need-loop-less Inv-loop μ-loop
 loop-less c = omega (arith, c .before .before .loop-test .taken)
 
@@ -52,16 +49,4 @@ returns-2 c = rows-end _ _ _ (c .before .loop .inv) (c .before .before .before .
 
 pub first-revoking-spec : {M : Type 1} → statement M
 first-revoking-spec =
-    tie.close
-    (tie.spec
-    Inv-loop
-    μ-loop
-    loop-holds
-    first-revoking-row-requires
-    mul-if1
-    add-if1
-    returns
-    add-q
-    loop-less
-    loop-again
-    returns-2)
+    tie.close (tie.spec Inv-loop μ-loop loop-holds first-revoking-row-requires mul-if1 add-if1 returns (λ c. search needs) loop-less loop-again returns-2)

@@ -75,21 +75,5 @@ returns-3 c = scan-ends (c .before .loop .inv) (c .loop-test .left)
 
 pub first-revoking-row-spec : {M : Type 1} → statement M
 first-revoking-row-spec =
-    tie.close
-    (tie.spec
-    Inv-loop
-    μ-loop
-    mul-end
-    add-end
-    shared-slice-read-mark
-    returns
-    mul-i
-    loop-holds
-    shared-slice-read-next
-    cast-next
-    shared-slice-read-if2
-    returns-2
-    add-i
-    loop-less
-    loop-again
-    returns-3)
+    tie.close (tie.spec Inv-loop μ-loop mul-end add-end shared-slice-read-mark returns mul-i loop-holds shared-slice-read-next cast-next
+    shared-slice-read-if2 returns-2 add-i loop-less loop-again returns-3)

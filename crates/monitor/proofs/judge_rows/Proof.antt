@@ -28,23 +28,11 @@ shared-slice-read-k c =
 cast-k : tie.Need-cast-k
 cast-k c = omega (arith, c .shared-slice-known3 .given 1)
 
-drawn-marks-requires : tie.Need-drawn-marks-requires
-drawn-marks-requires c κs = search needs
-
-next-states-requires : tie.Need-next-states-requires
-next-states-requires c κs = search needs
-
-first-not-below-requires : tie.Need-first-not-below-requires
-first-not-below-requires c κs = search needs
-
 add-refused : tie.Need-add-refused
 add-refused c =
     let s = c .before .before .before .before .before .before .before in
     let h = passed-head stateLimit (s .args .body .now) (s .pre) in
     omega (arith, c .if1 .taken, marks-length h, ap length (c .before .before .before .drawn-marks .ensures), h .states-most)
-
-refused-requires : tie.Need-refused-requires
-refused-requires c κs = search needs
 
 returns : tie.Need-returns
 returns c =
@@ -57,9 +45,6 @@ shared-slice-read-first-not-below c =
     let h = passed-head stateLimit (s .args .body .now) (s .pre) in
     omega (arith, h .long)
 
-first-not-below-requires-2 : tie.Need-first-not-below-requires-2
-first-not-below-requires-2 c κs = search needs
-
 add-refused-2 : tie.Need-add-refused-2
 add-refused-2 c =
     let s = c .before .before .before .before .before .before .before .before .before .before in
@@ -71,9 +56,6 @@ add-refused-3 c =
     let s = c .before .before .before .before .before .before .before .before .before .before in
     let h = passed-head stateLimit (s .args .body .now) (s .pre) in
     omega (arith, c .if2 .taken, nexts-length h, ap length (c .before .before .before .before .before .next-states .ensures), h .states-most, mul-le-mul (h .states-most) (h .symbols-most))
-
-refused-requires-2 : tie.Need-refused-requires-2
-refused-requires-2 c κs = search needs
 
 returns-2 : tie.Need-returns-2
 returns-2 c =
@@ -98,9 +80,6 @@ add-refused-5 c =
     let h = passed-head stateLimit (s .args .body .now) (s .pre) in
     omega (arith, c .if3 .taken, nexts-length h, ap length (c .before .before .before .before .before .before .before .next-states .ensures), h .states-most, mul-le-mul (h .states-most) (h .symbols-most))
 
-refused-requires-3 : tie.Need-refused-requires-3
-refused-requires-3 c κs = search needs
-
 returns-3 : tie.Need-returns-3
 returns-3 c =
     let b = c .before .before .before .before .before .before .before .before .before .before .before .before .before .args .body .now in
@@ -113,27 +92,6 @@ returns-4 c =
 
 pub judge-rows-spec : {M : Type 1} → statement M
 judge-rows-spec =
-    tie.close
-    (tie.spec
-    shared-slice-read-n
-    cast-n
-    shared-slice-read-k
-    cast-k
-    drawn-marks-requires
-    next-states-requires
-    first-not-below-requires
-    add-refused
-    refused-requires
-    returns
-    shared-slice-read-first-not-below
-    first-not-below-requires-2
-    add-refused-2
-    add-refused-3
-    refused-requires-2
-    returns-2
-    first-revoking-requires
-    add-refused-4
-    add-refused-5
-    refused-requires-3
-    returns-3
-    returns-4)
+    tie.close (tie.spec shared-slice-read-n cast-n shared-slice-read-k cast-k (λ c κs. search needs) (λ c κs. search needs) (λ c κs. search needs)
+    add-refused (λ c κs. search needs) returns shared-slice-read-first-not-below (λ c κs. search needs) add-refused-2 add-refused-3 (λ c κs. search needs)
+    returns-2 first-revoking-requires add-refused-4 add-refused-5 (λ c κs. search needs) returns-3 returns-4)

@@ -38,12 +38,6 @@ returns c =
     (c .before .before .before .successor .ensures .0) (c .before .before .successor2 .ensures .0) (c .before .entry-at .ensures .0)
     (eq-eqb _ _ (c .if1 .taken)))
 
-add-a : tie.Need-add-a Inv-loop μ-loop
-add-a c = search needs
-
-loop-less : tie.Need-loop-less Inv-loop μ-loop
-loop-less c = search needs
-
 loop-again : tie.Need-loop-again Inv-loop μ-loop
 loop-again c =
     let o = c .before .before .before .before .before .before .before .args in
@@ -57,4 +51,5 @@ returns-2 c = scan-ends (c .before .loop .inv) (omega arith)
 
 pub nearer-by-spec : {M : Type 1} → statement M
 nearer-by-spec =
-    tie.close (tie.spec Inv-loop μ-loop loop-holds successor-requires successor-requires-2 entry-at-requires returns add-a loop-less loop-again returns-2)
+    tie.close (tie.spec Inv-loop μ-loop loop-holds successor-requires successor-requires-2 entry-at-requires returns (λ c. search needs) (λ c. search needs)
+    loop-again returns-2)

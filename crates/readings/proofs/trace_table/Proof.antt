@@ -14,17 +14,8 @@ use Rattle.readings.proofs.Traces.{reads-at, symbols-below}
 use Rattle.readings.proofs.trace_table.Statement.{statement}
 use Rattle.readings.proofs.trace_table.Tie as tie
 
-is-reading-requires : tie.Need-is-reading-requires
-is-reading-requires c κs = search needs
-
 returns : tie.Need-returns
 returns c = rw (sym (c .before .is-reading .ensures) ∙ not-true _ (c .if1 .taken))
-
-cast-first-not-below : tie.Need-cast-first-not-below
-cast-first-not-below c = search needs
-
-first-not-below-requires : tie.Need-first-not-below-requires
-first-not-below-requires c κs = search needs
 
 returns-2 : tie.Need-returns-2
 returns-2 c =
@@ -38,9 +29,6 @@ state-after-requires c κs =
     let s = c .before .before .before .before .before .before .before .before in
     (s .pre .rows, s .pre .well-formed .start-in, symbols-below (s .args .symbols .now) (s .args .t .symbols) (c .before .first-not-below .ensures) (c .if2 .left))
 
-read-requires : tie.Need-read-requires
-read-requires c κs = search needs
-
 returns-3 : tie.Need-returns-3
 returns-3 c =
     let a = c .before .before .before .before .before .before .before .before .before .before .args in
@@ -51,13 +39,5 @@ returns-3 c =
 
 pub trace-table-spec : {M : Type 1} → statement M
 trace-table-spec =
-    tie.close
-    (tie.spec
-    is-reading-requires
-    returns
-    cast-first-not-below
-    first-not-below-requires
-    returns-2
-    state-after-requires
-    read-requires
+    tie.close (tie.spec (λ c κs. search needs) returns (λ c. search needs) (λ c κs. search needs) returns-2 state-after-requires (λ c κs. search needs)
     returns-3)

@@ -16,9 +16,6 @@ abbrev μ-loop : tie.MeasureT-loop
 loop-holds : tie.Need-loop-holds Inv-loop μ-loop
 loop-holds c = rounds-begin (c .before .pre .1)
 
-lower-all-requires : tie.Need-lower-all-requires Inv-loop μ-loop
-lower-all-requires c κs = search needs
-
 loop-less : tie.Need-loop-less Inv-loop μ-loop
 loop-less c = omega (arith, c .before .lower-all .ensures .falls, c .if1 .taken)
 
@@ -29,4 +26,4 @@ returns : tie.Need-returns Inv-loop μ-loop
 returns c = rounds-end (c .before .before .before .loop .inv) (c .before .lower-all .ensures) (c .if1 .left)
 
 pub relax-spec : {M : Type 1} → statement M
-relax-spec = tie.close (tie.spec Inv-loop μ-loop loop-holds lower-all-requires loop-less loop-again returns)
+relax-spec = tie.close (tie.spec Inv-loop μ-loop loop-holds (λ c κs. search needs) loop-less loop-again returns)

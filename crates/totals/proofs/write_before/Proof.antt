@@ -13,29 +13,14 @@ Inv-loop totals costs nexts n k start area₀ p₀ i₀ left₀ area p i left = 
 abbrev μ-loop : tie.MeasureT-loop
 μ-loop totals costs nexts n k start area₀ p₀ i₀ left₀ area p i left = left
 
-mul-left : tie.Need-mul-left Inv-loop μ-loop
-mul-left c = search needs
-
-element-copy-out-left : tie.Need-element-copy-out-left Inv-loop μ-loop
-element-copy-out-left c = search needs
-
 loop-holds : tie.Need-loop-holds Inv-loop μ-loop
 loop-holds c =
     let a = c .before .before .before .args in
     let pre = c .before .before .before .pre in
     walk-begins (automatonOf (a .n) (a .k) (a .nexts .now)) (a .totals .now) (a .costs .now) (pre .2) (pre .3)
 
-mul-if1 : tie.Need-mul-if1 Inv-loop μ-loop
-mul-if1 c = search needs
-
-element-copy-out-if1 : tie.Need-element-copy-out-if1 Inv-loop μ-loop
-element-copy-out-if1 c = search needs
-
 sub-left : tie.Need-sub-left Inv-loop μ-loop
 sub-left c = walk-left (c .before .before .loop .inv) (c .before .before .before .before .before .before .pre .1) (c .if1 .taken)
-
-onward-by-requires : tie.Need-onward-by-requires Inv-loop μ-loop
-onward-by-requires c κs = search needs
 
 cast-area : tie.Need-cast-area Inv-loop μ-loop
 cast-area c =
@@ -82,5 +67,5 @@ returns c =
 
 pub write-before-spec : {M : Type 1} → statement M
 write-before-spec =
-    tie.close (tie.spec Inv-loop μ-loop mul-left element-copy-out-left loop-holds mul-if1 element-copy-out-if1 sub-left onward-by-requires cast-area
-    slice-write-area successor-requires add-i loop-less loop-again same-length returns)
+    tie.close (tie.spec Inv-loop μ-loop (λ c. search needs) (λ c. search needs) loop-holds (λ c. search needs) (λ c. search needs) sub-left (λ c κs. search
+    needs) cast-area slice-write-area successor-requires add-i loop-less loop-again same-length returns)
