@@ -26,7 +26,7 @@ use Rattle.theory.proofs.Witness.{Harm, harm-tells, tells-harm, sent-length, ne
 use Rattle.pairs.specs.Square.{never, entry, Squared, path}
 use Rattle.pairs.proofs.Path.{noted-least, apartBy, path-first}
 use Rattle.faults.specs.Steps.{plus, costOf, Costs}
-use Rattle.totals.specs.Totals.{least, leastAfter, Attained, Relaxed, onward, approach, Leading}
+use Rattle.totals.specs.Totals.{leastAfter, Attained, Relaxed, onward, approach, Leading}
 use Rattle.totals.proofs.Least.{least-le}
 
 plus-at-most : (l e : ℕ) → plus l e ≤ l + e

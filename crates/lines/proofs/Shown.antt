@@ -2,7 +2,7 @@
 use mathlib.Core.Path.{_≡_, refl, sym, ap, _∙_}
 use mathlib.Core.List.{List, [], _∷_, _++_}
 use mathlib.Core.Option.{Option, none, some}
-use Prim.Native.Nat.{ℕ, _+_, _≤_, _<_, _^_}
+use Prim.Native.Nat.{ℕ, _≤_, _<_}
 use native.Mathlib.Nat.{zero-add}
 use native.Mathlib.Omega.{arith}
 use lib.ListN.{length, getD, take, drop, length-take}
@@ -15,7 +15,6 @@ use Rattle.theory.specs.Faults.{kinds}
 use Rattle.theory.specs.Series.{Series}
 use Rattle.theory.specs.Computed.{extentOf, firstWitness, distance}
 use Rattle.theory.proofs.Answer.{written-over, asks-values, asks-other, asks-refuses}
-use Rattle.basics.specs.Refusals.{refusal}
 use Rattle.basics.specs.declared.Refusal.{Refusal}
 use Rattle.monitor.specs.Format.{monitorOf}
 use Rattle.monitor.specs.Questions.{tableQuestions, judgeAnswer}
@@ -23,7 +22,7 @@ use Rattle.immunity.specs.declared.Column.{Column}
 use Rattle.immunity.specs.declared.Finding.{Finding}
 use Rattle.immunity.specs.declared.Summary.{Summary}
 use Rattle.immunity.specs.declared.LinkCard.{LinkCard}
-use Rattle.immunity.specs.Findings.{witnessFigures, tableFigures, finding, summaryFigures, columnFigures, CardAnswer, cardAsking, cardAnswer, found, summarised, carded}
+use Rattle.immunity.specs.Findings.{witnessFigures, tableFigures, finding, summaryFigures, CardAnswer, cardAsking, cardAnswer, found, summarised, carded}
 use Rattle.immunity.proofs.Columns.{card-asks}
 use Rattle.lines.specs.Text.{ascii, decimal}
 use Rattle.lines.specs.Line.{distanceText, distanceTexts, refusalLine, ruleLine, lineAnswer, findingText, columnTexts, shownLine, Put}

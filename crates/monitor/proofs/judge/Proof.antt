@@ -12,7 +12,8 @@ returns : tie.Need-returns
 unfolding judgeAnswer
 returns c =
     let b = c .before .before .before .before .before .args .body .now in
-    sym (asks-refused (headQuestions stateLimit b) (rowQuestions b) [] [] (sym (c .before .before .before .judge-head .ensures) ∙ ap judgement (c .before .r .given .1)))
+    sym (asks-refused (headQuestions stateLimit b) (rowQuestions b) [] []
+    (sym (c .before .before .before .judge-head .ensures) ∙ ap judgement (c .before .r .given .1)))
 
 judge-rows-requires : tie.Need-judge-rows-requires
 judge-rows-requires c κs = sym (c .before .before .judge-head .ensures) ∙ ap judgement (c .enum-told .given .1)
@@ -22,7 +23,8 @@ unfolding judgeAnswer
 returns-2 c =
     let b = c .before .before .before .before .before .args .body .now in
     c .judge-rows .ensures
-    ∙ sym (asks-passed (headQuestions stateLimit b) (rowQuestions b) [] [] (sym (c .before .before .before .judge-head .ensures) ∙ ap judgement (c .before .enum-told .given .1)))
+    ∙ sym (asks-passed (headQuestions stateLimit b) (rowQuestions b) [] []
+    (sym (c .before .before .before .judge-head .ensures) ∙ ap judgement (c .before .enum-told .given .1)))
 
 pub judge-spec : {M : Type 1} → statement M
 judge-spec = tie.close (tie.spec (λ c κs. search needs) (λ c. search needs) returns (λ c. search needs) judge-rows-requires returns-2)
