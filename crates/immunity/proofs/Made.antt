@@ -25,10 +25,10 @@ use Rattle.faults.specs.declared.Fault.{Fault}
 use Rattle.faults.specs.Kinds.{bitOf}
 use Rattle.faults.specs.Steps.{stepFor, Inside, Ranged, costOf, costing, Costs}
 use Rattle.faults.proofs.AtMostTwo.{count-is}
-use Rattle.totals.specs.Totals.{Relaxed, approach}
+use Rattle.totals.specs.Totals.{Relaxed, wayToFault}
 use Rattle.immunity.specs.Findings.{seriesFigures}
 use Rattle.immunity.specs.Search.{automatonIn, Posed, Ready}
-use Rattle.immunity.proofs.Search.{search-finds, cost-sum}
+use Rattle.immunity.proofs.Search.{Searched, search-finds, cost-sum}
 
 pub sets-append : (l : List ℕ) (i : ℕ) (xs ys : List ℕ) → sets (sets l i xs) (i + length xs) ys ≡ sets l i (xs ++ ys)
 sets-append l i [] ys = ap (λ (j : ℕ). sets l j ys) (add-zero i)
@@ -37,54 +37,28 @@ sets-append l i (x ∷ xs) ys = ap (λ (j : ℕ). sets (sets (set l i x) (suc i)
 pub inside-wider : {k m : ℕ} {s : Symbols} → Inside k s → k ≤ m → Inside m s
 inside-wider i l = record { count-most = i .count-most; first-in = omega (arith, i .first-in); second-in = omega (arith, i .second-in) }
 
--- what a search has made: the square, the costs and the totals
-pub record Searched (g : Automaton) (ends : ℕ → ℕ → Bool) (set : ℕ) (d costs v : List ℕ) : Type 0 where
-  pub closed : Closed g
-  pub squared : Squared g ends d
-  pub costs-are : Costs g d (steps set (g .symbols)) (g .states) costs
-  pub relaxed : Relaxed g costs v
+pub searched : (set : ℕ) {t : Shape} {outs d costs v ts : List ℕ} → Posed t outs d ts
+    → Costs (automatonIn t ts) d (steps set (t .symbols)) (t .states) costs → Relaxed (automatonIn t ts) costs v
+    → Searched (automatonIn t ts) (differing outs) set d costs v
+searched set p c r = record { closed = next-of-rows (p .rows); squared = p .squared; costs-are = c; relaxed = r }
+
+pub search-ready : {t : Shape} {set : ℕ} {outs d costs v ts : List ℕ} {room : ℕ} → Ready t set outs d costs v ts room
+    → Searched (automatonIn t ts) (differing outs) set d costs v
+search-ready {set = set} r = searched set (r .posed) (r .costs-are) (r .relaxed)
 
 -- `count` symbols lead from the start to `state`, where the fault is the first that costs what the state does
 pub record Chosen (g : Automaton) (set : ℕ) (d costs v : List ℕ) (start state count : ℕ) (fault : Fault) : Type 0 where
   pub start-in : start < g .states
   pub low : getD v start 0 < never
-  pub is-count : count ≡ length (approach g v costs (getD v start 0) start)
-  pub is-state : state ≡ run g start (approach g v costs (getD v start 0) start)
-  pub state-in : state < g .states
+  pub is-count : count ≡ length (wayToFault g v costs start)
+  pub is-state : state ≡ run g start (wayToFault g v costs start)
   pub is-cost : count + getD costs state 0 ≡ getD v start 0
   pub picked : find (costing g d state (getD costs state 0)) (steps set (g .symbols)) ≡ some (stepFor fault)
   pub ranged : Ranged (g .symbols) fault
 
-pub searched : (set : ℕ) {t : Shape} {outs d costs v ts : List ℕ} → Posed t outs d ts → Costs (automatonIn t ts) d (steps set (t .symbols)) (t .states) costs
-    → Relaxed (automatonIn t ts) costs v → Searched (automatonIn t ts) (differing outs) set d costs v
-searched set p c r = record { closed = next-of-rows (p .rows); squared = p .squared; costs-are = c; relaxed = r }
-
-module _ {t : Shape} {set : ℕ} {outs d costs v ts : List ℕ} {room : ℕ} (r : Ready t set outs d costs v ts room) where
-  pub search-ready : Searched (automatonIn t ts) (differing outs) set d costs v
-  search-ready = searched set (r .posed) (r .costs-are) (r .relaxed)
-
-  abbrev before : List ℕ
-  before = approach (automatonIn t ts) v costs (getD v (t .start) 0) (t .start)
-
-  -- by what `write_before` and `fault_with` answer
-  pub chosen : {state count : ℕ} {fault : Fault}
-      → (count ≡ length before) × ((state ≡ run (automatonIn t ts) (t .start) before) × (state < t .states)) × (count + getD costs state 0 ≡ getD v (t .start) 0)
-      → (find (costing (automatonIn t ts) d state (getD costs state 0)) (steps set (t .symbols)) ≡ some (stepFor fault)) × Ranged (t .symbols) fault
-      → Chosen (automatonIn t ts) set d costs v (t .start) state count fault
-  chosen w f = record {
-    start-in = r .posed .start-in;
-    low = r .some;
-    is-count = w .0;
-    is-state = w .1 .0;
-    state-in = w .1 .1;
-    is-cost = w .2;
-    picked = f .0;
-    ranged = f .1;
-  }
-
 module _ {g : Automaton} {ends : ℕ → ℕ → Bool} {set : ℕ} {d costs v : List ℕ} {start state count : ℕ} {fault : Fault} (h : Searched g ends set d costs v) (k : Chosen g set d costs v start state count fault) where
   abbrev way : List ℕ
-  way = approach g v costs (getD v start 0) start
+  way = wayToFault g v costs start
 
   abbrev step : FaultStep
   step = stepFor fault
@@ -131,7 +105,7 @@ module _ {g : Automaton} {ends : ℕ → ℕ → Bool} {set : ℕ} {d costs v : 
   made-first : firstHarmful g ends (steps set (g .symbols)) start ≡ some made
   made-first =
       subst (λ (q : ℕ). find (costing g d q (getD costs q 0)) (steps set (g .symbols)) ≡ some step → firstHarmful g ends (steps set (g .symbols)) start ≡ some (record { before = way; fault = step; after = path g d (entry d (run g q (step .sent)) (run g q (step .received))) (run g q (step .sent)) (run g q (step .received)) })) (sym (k .is-state))
-      (search-finds set (h .closed) (h .squared) (h .costs-are) (h .relaxed) start step (k .start-in) (k .low)) (k .picked)
+      (search-finds h start step (k .start-in) (k .low)) (k .picked)
 
   -- the first series is the one made
   pub made-is : {s : Series} → firstHarmful g ends (steps set (g .symbols)) start ≡ some s → made ≡ s
