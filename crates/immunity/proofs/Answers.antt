@@ -22,7 +22,8 @@ use Rattle.pairs.specs.Square.{never}
 use Rattle.immunity.specs.Findings.{seriesFigures, witnessFigures, witnessTrace, roomQuestions}
 use Rattle.immunity.proofs.Search.{Searched, total-least, total-found, search-none}
 
-module _ {g : Automaton} {ends : ℕ → ℕ → Bool} {set : ℕ} {d costs v : List ℕ} (h : Searched g ends set d costs v) {start : ℕ} (start-in : start < g .states) where
+module _ {g : Automaton} {ends : ℕ → ℕ → Bool} {set : ℕ} {d costs v : List ℕ} (h : Searched g ends set d costs v) {start : ℕ}
+    (start-in : start < g .states) where
   abbrev pub first : Option Series
   first = firstHarmful g ends (steps set (g .symbols)) start
 
@@ -61,7 +62,8 @@ module _ {g : Automaton} {ends : ℕ → ℕ → Bool} {set : ℕ} {d costs v : 
         let z = s .2 in
         rw (s .1, lt-leb (length (sentTrace (s .0))) room (omega (arith, z, l)))
 
-    pub says-vulnerable : {values : List ℕ} → total < never → total ≤ room → ((s : Series) → first ≡ some s → values ≡ seriesFigures read g start s) → answered values ≡ answer
+    pub says-vulnerable : {values : List ℕ} → total < never → total ≤ room → ((s : Series) → first ≡ some s → values ≡ seriesFigures read g start s)
+        → answered values ≡ answer
     says-vulnerable low l are =
         let s = search-some low in
         let z = s .2 in
@@ -70,7 +72,8 @@ module _ {g : Automaton} {ends : ℕ → ℕ → Bool} {set : ℕ} {d costs v : 
   pub immune-keeps : (area : List ℕ) → g .states ≤ stateLimit → never ≤ total → area ≡ written (answered []) (witnessTrace first) area
   immune-keeps area small e = rw (search-none h small start start-in e)
 
-  pub witness-fills : (values area : List ℕ) {after : List ℕ} → total < never → total ≤ length area → ((s : Series) → first ≡ some s → after ≡ sets area 0 (sentTrace s)) → after ≡ written (answered values) (witnessTrace first) area
+  pub witness-fills : (values area : List ℕ) {after : List ℕ} → total < never → total ≤ length area
+      → ((s : Series) → first ≡ some s → after ≡ sets area 0 (sentTrace s)) → after ≡ written (answered values) (witnessTrace first) area
   witness-fills values area low l is =
       let s = search-some low in
       let z = s .2 in

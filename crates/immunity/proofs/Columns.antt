@@ -45,7 +45,8 @@ filled-more {answer} {rank} {columns} column h l e = record {
       ∙ ap (λ (i : ℕ). each i (λ c. answer c ∷ [])) (sym (add-one rank));
 }
 
-pub filled-all : {answer : ℕ → Answer} {rank : ℕ} {columns : List Column} → Filled answer rank columns → kinds ≤ rank → found columns ≡ each kinds (λ c. answer c ∷ [])
+pub filled-all : {answer : ℕ → Answer} {rank : ℕ} {columns : List Column} → Filled answer rank columns → kinds ≤ rank
+    → found columns ≡ each kinds (λ c. answer c ∷ [])
 filled-all {answer} {rank} {columns} h l =
     let e : rank ≡ kinds = omega (arith, l, h .upto) in
     ap found (sym (take-all rank columns (omega (arith, l, h .size)))) ∙ h .filled ∙ ap (λ (i : ℕ). each i (λ c. answer c ∷ [])) e

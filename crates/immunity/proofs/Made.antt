@@ -32,7 +32,8 @@ use Rattle.immunity.proofs.Search.{Searched, search-finds, cost-sum}
 
 pub sets-append : (l : List ℕ) (i : ℕ) (xs ys : List ℕ) → sets (sets l i xs) (i + length xs) ys ≡ sets l i (xs ++ ys)
 sets-append l i [] ys = ap (λ (j : ℕ). sets l j ys) (add-zero i)
-sets-append l i (x ∷ xs) ys = ap (λ (j : ℕ). sets (sets (set l i x) (suc i) xs) j ys) (add-suc i (length xs) ∙ sym (suc-add i (length xs))) ∙ sets-append (set l i x) (suc i) xs ys
+sets-append l i (x ∷ xs) ys =
+    ap (λ (j : ℕ). sets (sets (set l i x) (suc i) xs) j ys) (add-suc i (length xs) ∙ sym (suc-add i (length xs))) ∙ sets-append (set l i x) (suc i) xs ys
 
 pub inside-wider : {k m : ℕ} {s : Symbols} → Inside k s → k ≤ m → Inside m s
 inside-wider i l = record { count-most = i .count-most; first-in = omega (arith, i .first-in); second-in = omega (arith, i .second-in) }
@@ -56,7 +57,8 @@ pub record Chosen (g : Automaton) (set : ℕ) (d costs v : List ℕ) (start stat
   pub picked : find (costing g d state (getD costs state 0)) (steps set (g .symbols)) ≡ some (stepFor fault)
   pub ranged : Ranged (g .symbols) fault
 
-module _ {g : Automaton} {ends : ℕ → ℕ → Bool} {set : ℕ} {d costs v : List ℕ} {start state count : ℕ} {fault : Fault} (h : Searched g ends set d costs v) (k : Chosen g set d costs v start state count fault) where
+module _ {g : Automaton} {ends : ℕ → ℕ → Bool} {set : ℕ} {d costs v : List ℕ} {start state count : ℕ} {fault : Fault} (h : Searched g ends set d costs v)
+    (k : Chosen g set d costs v start state count fault) where
   abbrev way : List ℕ
   way = wayToFault g v costs start
 
@@ -74,7 +76,8 @@ module _ {g : Automaton} {ends : ℕ → ℕ → Bool} {set : ℕ} {d costs v : 
   made-cost : length (step .sent) + apart ≡ getD costs state 0
   made-cost =
       let f = find-in (costing g d state (getD costs state 0)) (steps set (g .symbols)) (k .picked) in
-      cost-sum (length (step .sent)) apart (getD costs state 0) (eqb-true (costOf g d state step) (getD costs state 0) (f .1)) (omega (arith, k .is-cost, k .low))
+      cost-sum (length (step .sent)) apart (getD costs state 0) (eqb-true (costOf g d state step) (getD costs state 0) (f .1))
+      (omega (arith, k .is-cost, k .low))
 
   made-sum : count + (length (step .sent) + apart) ≡ getD v start 0
   made-sum = (let x = made-cost in omega (arith, x, k .is-cost))
@@ -104,7 +107,14 @@ module _ {g : Automaton} {ends : ℕ → ℕ → Bool} {set : ℕ} {d costs v : 
 
   made-first : firstHarmful g ends (steps set (g .symbols)) start ≡ some made
   made-first =
-      subst (λ (q : ℕ). find (costing g d q (getD costs q 0)) (steps set (g .symbols)) ≡ some step → firstHarmful g ends (steps set (g .symbols)) start ≡ some (record { before = way; fault = step; after = path g d (entry d (run g q (step .sent)) (run g q (step .received))) (run g q (step .sent)) (run g q (step .received)) })) (sym (k .is-state))
+      subst (λ (q : ℕ). find (costing g d q (getD costs q 0)) (steps set (g .symbols)) ≡ some step
+      → firstHarmful g ends (steps set (g .symbols)) start ≡ some
+      (record {
+        before = way;
+        fault = step;
+        after = path g d (entry d (run g q (step .sent)) (run g q (step .received))) (run g q (step .sent)) (run g q (step .received));
+      }))
+      (sym (k .is-state))
       (search-finds h start step (k .start-in) (k .low)) (k .picked)
 
   -- the first series is the one made
@@ -112,8 +122,10 @@ module _ {g : Automaton} {ends : ℕ → ℕ → Bool} {set : ℕ} {d costs v : 
   made-is e = some-same (sym made-first ∙ e)
 
   -- the three parts written one after the other
-  pub made-written : {s : Series} (area : List ℕ) {one two three : List ℕ} {p q : ℕ} → firstHarmful g ends (steps set (g .symbols)) start ≡ some s → one ≡ sets area 0 way → two ≡ sets one count (step .sent)
-      → p ≡ run g state (step .sent) → q ≡ run g state (step .received) → three ≡ sets two (count + fault .sent .count) (path g d (entry d p q) p q) → three ≡ sets area 0 (sentTrace s)
+  pub made-written : {s : Series} (area : List ℕ) {one two three : List ℕ} {p q : ℕ} → firstHarmful g ends (steps set (g .symbols)) start ≡ some s
+      → one ≡ sets area 0 way → two ≡ sets one count (step .sent)
+      → p ≡ run g state (step .sent) → q ≡ run g state (step .received) → three ≡ sets two (count + fault .sent .count) (path g d (entry d p q) p q)
+      → three ≡ sets area 0 (sentTrace s)
   made-written {s} area {two = two} {p = p} {q = q} e h₁ h₂ ep eq h₃ =
       h₃
       ∙ ap (λ (j : ℕ). sets two (count + j) (path g d (entry d p q) p q)) covers
@@ -127,12 +139,14 @@ module _ {g : Automaton} {ends : ℕ → ℕ → Bool} {set : ℕ} {d costs v : 
   pub made-figures : {s : Series} (outs : List ℕ) {x y p q : ℕ} → firstHarmful g ends (steps set (g .symbols)) start ≡ some s
       → p ≡ run g state (step .sent) → q ≡ run g state (step .received)
       → x ≡ run g p (path g d (entry d p q) p q) → y ≡ run g q (path g d (entry d p q) p q)
-      → _≡_ {A = List ℕ} (getD v start 0 ∷ count ∷ bitOf (fault .kind) ∷ fault .replacement ∷ getD outs x 0 ∷ getD outs y 0 ∷ []) (seriesFigures (λ r. getD outs r 0) g start s)
+      → _≡_ {A = List ℕ} (getD v start 0 ∷ count ∷ bitOf (fault .kind) ∷ fault .replacement ∷ getD outs x 0 ∷ getD outs y 0 ∷ [])
+      (seriesFigures (λ r. getD outs r 0) g start s)
   made-figures {s} outs e ep eq ex ey =
       rw (distance, k .is-count, ex, ey, ep, eq, sent, received) (ap (seriesFigures (λ r. getD outs r 0) g start) (made-is e))
     where
       distance : getD v start 0 ≡ length (sentTrace made)
-      distance = (let x = made-sum in let y = sent-length made in let z = path-length g d apart (run g state (step .sent)) (run g state (step .received)) in omega (arith, x, y, z, k .is-count))
+      distance = (let x = made-sum in let y = sent-length made in let z = path-length g d apart (run g state (step .sent)) (run g state (step .received)) in
+          omega (arith, x, y, z, k .is-count))
 
       sent : run g (run g state (step .sent)) (made .after) ≡ run g start (sentTrace made)
       sent = ap (λ (r : ℕ). run g (run g r (step .sent)) (made .after)) (k .is-state) ∙ sym (run-parts g start way (step .sent) (made .after))

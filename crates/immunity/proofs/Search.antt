@@ -77,13 +77,15 @@ module _ {g : Automaton} {ends : ℕ → ℕ → Bool} {set : ℕ} {d costs v : 
   received-in p s lp i = run-in (seen .closed) p (s .received) lp (good s i .received-trace)
 
   -- a fault step and what tells its two states apart are together no shorter than the step's cost, nor than the state's
-  step-least : (p : ℕ) (s : FaultStep) (w : List ℕ) → p < g .states → In s faults → Tells g ends (run g p (s .sent)) (run g p (s .received)) w → costOf g d p s ≤ length (s .sent) + length w
+  step-least : (p : ℕ) (s : FaultStep) (w : List ℕ) → p < g .states → In s faults → Tells g ends (run g p (s .sent)) (run g p (s .received)) w
+      → costOf g d p s ≤ length (s .sent) + length w
   step-least p s w lp i t =
       let e = noted-least (seen .squared .noted (run g p (s .sent)) (run g p (s .received)) (sent-in p s lp i) (received-in p s lp i)) w t in
       let u = plus-at-most (length (s .sent)) (gap p s) in
       omega (arith, e, u)
 
-  cost-least : (p : ℕ) (s : FaultStep) (w : List ℕ) → p < g .states → In s faults → Tells g ends (run g p (s .sent)) (run g p (s .received)) w → cost p ≤ length (s .sent) + length w
+  cost-least : (p : ℕ) (s : FaultStep) (w : List ℕ) → p < g .states → In s faults → Tells g ends (run g p (s .sent)) (run g p (s .received)) w
+      → cost p ≤ length (s .sent) + length w
   cost-least p s w lp i t = (let a = step-least p s w lp i t in let b = seen .costs-are .each p lp .least s i in omega (arith, a, b))
 
   -- ---- totals
@@ -122,7 +124,8 @@ module _ {g : Automaton} {ends : ℕ → ℕ → Bool} {set : ℕ} {d costs v : 
       let small : cost q < never = omega arith in
       let f = seen .costs-are .each q q-in .attained small in
       let sum = cost-sum (length (f .0 .sent)) (gap q (f .0)) (cost q) (f .2) small in
-      let w = seen .squared .noted (run g q (f .0 .sent)) (run g q (f .0 .received)) (sent-in q (f .0) q-in (f .1)) (received-in q (f .0) q-in (f .1)) .found (omega (arith, sum, small)) in
+      let w = seen .squared .noted (run g q (f .0 .sent)) (run g q (f .0 .received)) (sent-in q (f .0) q-in (f .1)) (received-in q (f .0) q-in (f .1)) .found
+      (omega (arith, sum, small)) in
       let s : Series = record { before = r .0; fault = f .0; after = w .word } in
       let long = w .long in
       let z = sent-length s in
@@ -155,7 +158,8 @@ module _ {g : Automaton} {ends : ℕ → ℕ → Bool} {set : ℕ} {d costs v : 
   unfolding run Trace
   search-leads = record { leads = λ p l lp e s. (let r = attained .reached p lp (omega arith) in go p l lp e s (r .0) (r .1) (r .2)) }
     where
-      go : (p l : ℕ) → p < g .states → total p ≡ l → l < never → (w : List ℕ) → Trace g w → total p ≡ length w + cost (run g p w) → (cost p ≡ l) ⊎ ((m : ℕ) × (l ≡ suc m) × (onward g v m p < g .symbols))
+      go : (p l : ℕ) → p < g .states → total p ≡ l → l < never → (w : List ℕ) → Trace g w → total p ≡ length w + cost (run g p w)
+          → (cost p ≡ l) ⊎ ((m : ℕ) × (l ≡ suc m) × (onward g v m p < g .symbols))
       go p l lp e s [] t h = inl (omega arith)
       go p l lp e s (a ∷ w) t h =
           let m : ℕ = length w + cost (run g (g .next p a) w) in
@@ -166,7 +170,8 @@ module _ {g : Automaton} {ends : ℕ → ℕ → Bool} {set : ℕ} {d costs v : 
             m,
             omega (arith, h),
             ⊎-elim (λ le. le)
-                (λ ge. absurd (clash (eq-eqb (total (g .next p a)) m is) (first-below (λ b. eqb (total (g .next p b)) m) 0 (g .symbols) a zero-le (omega (arith, ge, t .0)))))
+                (λ ge. absurd (clash (eq-eqb (total (g .next p a)) m is)
+                (first-below (λ b. eqb (total (g .next p b)) m) 0 (g .symbols) a zero-le (omega (arith, ge, t .0)))))
                 (lt-or-le (onward g v m p) (g .symbols)),
           )
 
@@ -177,15 +182,20 @@ module _ {g : Automaton} {ends : ℕ → ℕ → Bool} {set : ℕ} {d costs v : 
   madeOf l p f = record {
     before = approach g v costs l p;
     fault = f;
-    after = path g d (gap (run g p (approach g v costs l p)) f) (run g (run g p (approach g v costs l p)) (f .sent)) (run g (run g p (approach g v costs l p)) (f .received));
+    after = path g d (gap (run g p (approach g v costs l p)) f) (run g (run g p (approach g v costs l p)) (f .sent))
+        (run g (run g p (approach g v costs l p)) (f .received));
   }
 
   -- a series that begins with a fault step costs at least what the step does
-  struck-cost : (p l : ℕ) (s : FaultStep) (u : Series) → p < g .states → In s faults → In u (struck (g .symbols) l s) → harmful g ends p u ≡ true → costOf g d p s ≤ l
+  struck-cost : (p l : ℕ) (s : FaultStep) (u : Series) → p < g .states → In s faults → In u (struck (g .symbols) l s) → harmful g ends p u ≡ true
+      → costOf g d p s ≤ l
   unfolding run Trace
   struck-cost p l s u lp i j h =
       let r = struck-is g l s u j in
-      let harm : Harm g ends faults p (begin s (r .rest)) = record { valid = record { before-trace = tt; known = i; after-trace = r .trace }; harms = subst (λ (z : Series). harmful g ends p z ≡ true) (r .is) h } in
+      let harm : Harm g ends faults p (begin s (r .rest)) = record {
+        valid = record { before-trace = tt; known = i; after-trace = r .trace };
+        harms = subst (λ (z : Series). harmful g ends p z ≡ true) (r .is) h;
+      } in
       let x = step-least p s (r .rest) lp i (harm-tells g ends faults p (begin s (r .rest)) harm) in
       let y = r .long in
       omega (arith, x, y)
@@ -196,10 +206,12 @@ module _ {g : Automaton} {ends : ℕ → ℕ → Bool} {set : ℕ} {d costs v : 
   struck-first p l f lp i e s =
       let sum : length (f .sent) + gap p f ≡ l = cost-sum (length (f .sent)) (gap p f) l e s in
       let rest : l - length (f .sent) ≡ gap p f = omega arith in
-      let here = path-first (seen .closed) (seen .squared) (gap p f) (run g p (f .sent)) (run g p (f .received)) (sent-in p f lp i) (received-in p f lp i) refl (omega (arith, sum, s)) in
+      let here = path-first (seen .closed) (seen .squared) (gap p f) (run g p (f .sent)) (run g p (f .received)) (sent-in p f lp i) (received-in p f lp i) refl
+      (omega (arith, sum, s)) in
       rw (le-leb (length (f .sent)) l (omega (arith, sum)), rest)
       (find-map (harmful g ends p) (begin f) (words (g .symbols) (gap p f))
-      (find-same (λ w. harmful g ends p (begin f w)) (apartBy g ends (run g p (f .sent)) (run g p (f .received))) (words (g .symbols) (gap p f)) (λ w _. same w) ∙ here))
+      (find-same (λ w. harmful g ends p (begin f w)) (apartBy g ends (run g p (f .sent)) (run g p (f .received))) (words (g .symbols) (gap p f))
+      (λ w _. same w) ∙ here))
     where
       same : (w : List ℕ) → harmful g ends p (begin f w) ≡ apartBy g ends (run g p (f .sent)) (run g p (f .received)) w
       same w = rw (run-append g p (f .sent) w, run-append g p (f .received) w)
@@ -251,17 +263,23 @@ module _ {g : Automaton} {ends : ℕ → ℕ → Bool} {set : ℕ} {d costs v : 
           → find (λ s. eqb (costOf g d (run g q (approach g v costs l q)) s) (cost (run g q (approach g v costs l q)))) faults ≡ some h
           → find (harmful g ends q) (series faults (g .symbols) l) ≡ some (madeOf l q h))
           → find (λ s. eqb (costOf g d (run g p (way b)) s) (cost (run g p (way b)))) faults ≡ some f
-          → find (harmful g ends p) (flatMap (struck (g .symbols) (suc l)) faults ++ each (g .symbols) (λ b. map (plain b) (series faults (g .symbols) l))) ≡ some (made (way b))
-      go true h rest chosen = find-here (harmful g ends p) (flatMap (struck (g .symbols) (suc l)) faults) (each (g .symbols) (λ b. map (plain b) (series faults (g .symbols) l))) (at-once p (suc l) f lp (eqb-true (cost p) (suc l) h) s chosen)
+          → find (harmful g ends p)
+          (flatMap (struck (g .symbols) (suc l)) faults ++ each (g .symbols) (λ b. map (plain b) (series faults (g .symbols) l))) ≡ some (made (way b))
+      go true h rest chosen = find-here (harmful g ends p) (flatMap (struck (g .symbols) (suc l)) faults)
+          (each (g .symbols) (λ b. map (plain b) (series faults (g .symbols) l))) (at-once p (suc l) f lp (eqb-true (cost p) (suc l) h) s chosen)
       go false h rest chosen =
           find-later (harmful g ends p) (flatMap (struck (g .symbols) (suc l)) faults) (each (g .symbols) (λ b. map (plain b) (series faults (g .symbols) l)))
-          (not-at-once p (suc l) lp (let x = attained .above p lp in let y = eqb-false (cost p) (suc l) h in ⊎-elim (λ k. k) (λ k. absurd (y (omega (arith, x, k)))) (lt-or-le (suc l) (cost p))))
+          (not-at-once p (suc l) lp (let x = attained .above p lp in let y = eqb-false (cost p) (suc l) h in
+          ⊎-elim (λ k. k) (λ k. absurd (y (omega (arith, x, k)))) (lt-or-le (suc l) (cost p))))
           ∙ find-each (harmful g ends p) (g .symbols) (λ b. map (plain b) (series faults (g .symbols) l)) a a-in
           (λ j less. find-map-none (harmful g ends p) (plain j) (series faults (g .symbols) l) (lower j less))
-          (find-map (harmful g ends p) (plain a) (series faults (g .symbols) l) (rest (g .next p a) f (seen .closed .next-in p a lp a-in) a-total (omega arith) chosen))
+          (find-map (harmful g ends p) (plain a) (series faults (g .symbols) l)
+          (rest (g .next p a) f (seen .closed .next-in p a lp a-in) a-total (omega arith) chosen))
         where
           a-in : a < g .symbols
-          a-in = ⊎-elim (λ k. absurd (eqb-false (cost p) (suc l) h k)) (λ r. (let z : l ≡ r .0 = omega (arith, r .1) in subst (λ (x : ℕ). onward g v x p < g .symbols) (sym z) (r .2))) (search-leads .leads p (suc l) lp e s)
+          a-in = ⊎-elim (λ k. absurd (eqb-false (cost p) (suc l) h k))
+              (λ r. (let z : l ≡ r .0 = omega (arith, r .1) in subst (λ (x : ℕ). onward g v x p < g .symbols) (sym z) (r .2)))
+              (search-leads .leads p (suc l) lp e s)
 
           a-total : total (g .next p a) ≡ l
           a-total = eqb-true (total (g .next p a)) l (first-here (λ b. eqb (total (g .next p b)) l) 0 (g .symbols) (omega (arith, a-in)))
@@ -283,4 +301,5 @@ module _ {g : Automaton} {ends : ℕ → ℕ → Bool} {set : ℕ} {d costs v : 
       → find (λ s. eqb (costOf g d (run g p (approach g v costs (total p) p)) s) (cost (run g p (approach g v costs (total p) p)))) faults ≡ some f
       → firstHarmful g ends faults p ≡ some (madeOf (total p) p f)
   search-finds p f lp s chosen =
-      found-first g ends faults (seen .closed) good p lp (total p) (madeOf (total p) p f) (total-within p lp s) (λ t h. total-least p t lp h) (first-made (total p) p f lp refl s chosen)
+      found-first g ends faults (seen .closed) good p lp (total p) (madeOf (total p) p f) (total-within p lp s) (λ t h. total-least p t lp h)
+      (first-made (total p) p f lp refl s chosen)

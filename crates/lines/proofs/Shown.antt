@@ -90,9 +90,11 @@ module _ (limit : ℕ) (b : List ℕ) (rule : ℕ) (card : LinkCard) (e : carded
   unfolding ruleLine judgeAnswer
   rule-carded {n} {y} h =
       let passed : asks (tableQuestions limit b) (summaryFigures m) ≡ answered (n ∷ y ∷ []) = sym summary ∙ ap summarised h in
-      let accepts : (values : List ℕ) → asks (tableQuestions limit b) values ≡ answered values = λ values. asks-other (tableQuestions limit b) (summaryFigures m) values passed in
+      let accepts : (values : List ℕ)
+      → asks (tableQuestions limit b) values ≡ answered values = λ values. asks-other (tableQuestions limit b) (summaryFigures m) values passed in
       let texts : columnTexts (card .columns) ≡ distanceTexts m =
-      column-texts (card .columns) ∙ ap answerTexts (columns ∙ ap (λ (c : CardAnswer). c .columns) (sym (card-asks (tableQuestions limit b) m accepts))) ∙ distance-texts m in
+      column-texts (card .columns) ∙ ap answerTexts (columns ∙ ap (λ (c : CardAnswer). c .columns) (sym (card-asks (tableQuestions limit b) m accepts)))
+      ∙ distance-texts m in
       let values : summaryFigures m ≡ n ∷ y ∷ [] = asks-values (tableQuestions limit b) (summaryFigures m) passed in
       let states : m .automaton .states ≡ n = ap (λ (l : List ℕ). getD l 0 0) values in
       let monitorable : monitorability m ≡ y = ap (λ (l : List ℕ). getD l 1 0) values in
@@ -126,7 +128,8 @@ module _ (limit rule : ℕ) (body : List ℕ) {before after : List ℕ} {to : �
       unfolding lineAnswer
       line-fits = rw (← line-length, le-leb to (length area) h)
 
-      pub line-written : take (length (take to after)) (take to after) ++ drop (length (take to after)) area ≡ written (lineAnswer limit rule body (length area)) (ruleLine limit rule body) area
+      pub line-written : take (length (take to after)) (take to after) ++ drop (length (take to after)) area ≡ written
+          (lineAnswer limit rule body (length area)) (ruleLine limit rule body) area
       line-written =
           ap (λ (l : List ℕ). take (length l) l ++ drop (length l) area) line-held
           ∙ ap (λ (l : List ℕ). l ++ drop (length (ruleLine limit rule body)) area) (take-length (ruleLine limit rule body))

@@ -12,11 +12,13 @@ array-share-prefix-marks : tie.Need-array-share-prefix-marks
 array-share-prefix-marks c = marks-lie (opened-yes stateLimit _ _ (c .before .before .before .before .«open» .ensures) (c .before .t .given .1))
 
 slice-aggregate-classify-table : tie.Need-slice-aggregate-classify-table
-slice-aggregate-classify-table c = marks-counted (opened-yes stateLimit _ _ (c .before .before .before .before .before .«open» .ensures) (c .before .before .t .given .1))
+slice-aggregate-classify-table c =
+    marks-counted (opened-yes stateLimit _ _ (c .before .before .before .before .before .«open» .ensures) (c .before .before .t .given .1))
 
 classify-table-requires : tie.Need-classify-table-requires
 classify-table-requires c κs =
-    table-handed (opened-yes stateLimit _ _ (c .before .before .before .before .before .before .before .«open» .ensures) (c .before .before .before .before .t .given .1))
+    table-handed (opened-yes stateLimit _ _ (c .before .before .before .before .before .before .before .«open» .ensures)
+    (c .before .before .before .before .t .given .1))
     (c .before .next-states .ensures)
 
 returns : tie.Need-returns
@@ -34,7 +36,8 @@ returns-2 c =
     let area = c .before .before .before .before .before .before .before .before .before .before .before .before .before .before .args .area .now in
     let opened = c .before .before .before .before .before .before .before .before .before .before .«open» .ensures in
     let e = c .before .before .classify-table .ensures in
-    opened-writes (opened-yes stateLimit _ _ opened (c .before .before .before .before .before .before .before .t .given .1)) (c .before .before .before .before .next-states .ensures)
+    opened-writes (opened-yes stateLimit _ _ opened (c .before .before .before .before .before .before .before .t .given .1))
+    (c .before .before .before .before .next-states .ensures)
     (classifyQuestions (length area)) classifyFigures classList area (e .0) (e .1)
 
 pub classify-spec : {M : Type 1} → statement M

@@ -26,7 +26,8 @@ returns-2 c =
     let l = start .pre .marks-length in
     let fits = c .before .before .before .before .before .before .before .before .if1 .left in
     let m = tableOf (t .states) (t .symbols) (t .start) (a .marks .now) (a .nexts .now) in (
-      figures-are (t .symbols) (t .start) (a .marks .now) (a .nexts .now) (o .0) (o .1) (start .pre) r (c .before .monitorability-by .ensures) (c .count .ensures)
+      figures-are (t .symbols) (t .start) (a .marks .now) (a .nexts .now) (o .0) (o .1) (start .pre) r (c .before .monitorability-by .ensures)
+          (c .count .ensures)
           ∙ rw (le-leb (t .states) (length (a .area .now)) fits),
       c .before .before .before .before .write-classes .ensures
           ∙ area-is (t .symbols) (t .start) (a .marks .now) (a .nexts .now) (o .0) (o .1) l (a .area .now)

@@ -32,7 +32,9 @@ loop-again c =
       search needs,
       ⊎-elim
           (λ w. subst (Exactly _ f) (sym (w .2)) (record {
-            at = marked-more f (member (at .set)) (at .q) (at .inv .1 .at) stateLimit (member (w .1 .result)) (lt-of-lt-of-le (c .before .before .loop-test .taken) (c .before .before .before .before .before .before .pre)) (eq-eqb _ _ (w .0 .taken)) (w .1 .ensures);
+            at = marked-more f (member (at .set)) (at .q) (at .inv .1 .at) stateLimit (member (w .1 .result))
+                (lt-of-lt-of-le (c .before .before .loop-test .taken) (c .before .before .before .before .before .before .pre)) (eq-eqb _ _ (w .0 .taken))
+                (w .1 .ensures);
           }))
           (λ w. subst (Exactly _ f) (sym (w .1)) (record { at = marked-same f (member (at .set)) (at .q) (at .inv .1 .at) (ne-eqb _ _ (w .0 .left)) }))
           (c .if1 .came),
@@ -41,7 +43,8 @@ loop-again c =
 returns : tie.Need-returns Inv-loop μ-loop
 returns c =
     let at = c .before .loop in
-    subst (λ (i : ℕ). Exactly i (hasMark (c .before .before .before .before .args .marks .now) (c .before .before .before .before .args .v)) (at .set)) (le-antisymm (at .inv .0) (c .loop-test .left)) (at .inv .1)
+    subst (λ (i : ℕ). Exactly i (hasMark (c .before .before .before .before .args .marks .now) (c .before .before .before .before .args .v)) (at .set))
+    (le-antisymm (at .inv .0) (c .loop-test .left)) (at .inv .1)
 
 pub states-marked-spec : {M : Type 1} → statement M
 states-marked-spec =

@@ -26,7 +26,8 @@ long : (c : tie.At-loop Inv-loop μ-loop) → length (c .loop .area) ≡ length 
 long c =
     let a = c .before .before .before .args in
     ap length (c .loop .inv .1)
-    ∙ length-filled (classBy (a .marks .now) (a .outlook .truth) (a .outlook .falsity)) (a .area .now) (c .loop .i) (le-trans (c .loop .inv .0) (c .before .before .before .pre))
+    ∙ length-filled (classBy (a .marks .now) (a .outlook .truth) (a .outlook .falsity)) (a .area .now) (c .loop .i)
+    (le-trans (c .loop .inv .0) (c .before .before .before .pre))
 
 slice-write-area : tie.Need-slice-write-area Inv-loop μ-loop
 slice-write-area c = rw (long (c .before .before)) (lt-of-lt-of-le (c .before .loop-test .taken) (c .before .before .before .before .before .pre))
@@ -37,7 +38,8 @@ loop-again c =
     let at = c .before .before .loop in (
       search needs,
       ap₂ (λ (l : List ℕ) (v : ℕ). set l (at .i) v) (at .inv .1) (c .class-by .ensures)
-          ∙ filled-turn (classBy (a .marks .now) (a .outlook .truth) (a .outlook .falsity)) (a .area .now) (at .i) (lt-of-lt-of-le (c .before .loop-test .taken) (c .before .before .before .before .before .pre)),
+          ∙ filled-turn (classBy (a .marks .now) (a .outlook .truth) (a .outlook .falsity)) (a .area .now) (at .i)
+          (lt-of-lt-of-le (c .before .loop-test .taken) (c .before .before .before .before .before .pre)),
     )
 
 same-length : tie.Need-same-length Inv-loop μ-loop

@@ -16,11 +16,13 @@ array-share-prefix-marks : tie.Need-array-share-prefix-marks
 array-share-prefix-marks c = marks-lie (opened-yes stateLimit _ _ (c .before .before .before .before .«open» .ensures) (c .before .t .given .1))
 
 slice-aggregate-card-of : tie.Need-slice-aggregate-card-of
-slice-aggregate-card-of c = marks-counted (opened-yes stateLimit _ _ (c .before .before .before .before .before .«open» .ensures) (c .before .before .t .given .1))
+slice-aggregate-card-of c =
+    marks-counted (opened-yes stateLimit _ _ (c .before .before .before .before .before .«open» .ensures) (c .before .before .t .given .1))
 
 card-of-requires : tie.Need-card-of-requires
 card-of-requires c κs =
-    table-handed (opened-yes stateLimit _ _ (c .before .before .before .before .before .before .«open» .ensures) (c .before .before .before .t .given .1)) (c .next-states .ensures)
+    table-handed (opened-yes stateLimit _ _ (c .before .before .before .before .before .before .«open» .ensures) (c .before .before .before .t .given .1))
+    (c .next-states .ensures)
 
 returns : tie.Need-returns
 unfolding cardAnswer judgeAnswer
@@ -33,7 +35,8 @@ returns-2 : tie.Need-returns-2
 unfolding cardAnswer judgeAnswer
 returns-2 c =
     let b = c .before .before .before .before .before .before .before .before .before .before .args .body .now in
-    let h = opened-yes stateLimit _ _ (c .before .before .before .before .before .before .before .«open» .ensures) (c .before .before .before .before .t .given .1) in
+    let h = opened-yes stateLimit _ _ (c .before .before .before .before .before .before .before .«open» .ensures)
+    (c .before .before .before .before .t .given .1) in
     let e = h .accepted in
     c .card-of .ensures ∙ ap (cardAsking []) (monitor-handed h (c .before .next-states .ensures))
     ∙ card-asks (tableQuestions stateLimit b) (monitorOf b) (λ values. asks-other (tableQuestions stateLimit b) [] values e)

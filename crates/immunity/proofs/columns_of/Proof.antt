@@ -26,8 +26,11 @@ loop-holds c =
     (filled-none (alone-in (monitorIn (a .t) (a .marks) (a .nexts))) _, c .scratch .ensures)
 
 finding-in-requires : tie.Need-finding-in-requires Inv-loop μ-loop
-finding-in-requires c κs =
-    (c .before .before .before .before .before .before .before .before .before .before .before .pre, c .before .before .before .before .before .before .before .before .distances .ensures, c .before .before .before .before .before .before .loop .inv .1)
+finding-in-requires c κs = (
+  c .before .before .before .before .before .before .before .before .before .before .before .pre,
+  c .before .before .before .before .before .before .before .before .distances .ensures,
+  c .before .before .before .before .before .before .loop .inv .1,
+)
 
 loop-again : tie.Need-loop-again Inv-loop μ-loop
 loop-again c =
@@ -35,7 +38,8 @@ loop-again c =
     let at = c .before .before .before .before .before .before .before .before .loop in
     let m = monitorIn (a .t) (a .marks) (a .nexts) in
     let e = c .before .finding-in .ensures in
-    let one = alone m (at .rank) (c .before .before .before .before .before .kind-at .result) (c .before .before .before .before .before .kind-at .ensures) (c .before .before .before .before .before .before .empty .ensures) (c .before .before .before .before .with .ensures) (e .0) in
+    let one = alone m (at .rank) (c .before .before .before .before .before .kind-at .result) (c .before .before .before .before .before .kind-at .ensures)
+    (c .before .before .before .before .before .before .empty .ensures) (c .before .before .before .before .with .ensures) (e .0) in
     (filled-more _ (at .inv .0) (c .before .before .before .before .before .before .before .loop-test .taken) one, e .1)
 
 returns : tie.Need-returns Inv-loop μ-loop

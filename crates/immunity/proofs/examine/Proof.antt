@@ -13,11 +13,13 @@ array-share-prefix-marks : tie.Need-array-share-prefix-marks
 array-share-prefix-marks c = marks-lie (opened-yes stateLimit _ _ (c .before .before .before .before .«open» .ensures) (c .before .t .given .1))
 
 slice-aggregate-examine-table : tie.Need-slice-aggregate-examine-table
-slice-aggregate-examine-table c = marks-counted (opened-yes stateLimit _ _ (c .before .before .before .before .before .«open» .ensures) (c .before .before .t .given .1))
+slice-aggregate-examine-table c =
+    marks-counted (opened-yes stateLimit _ _ (c .before .before .before .before .before .«open» .ensures) (c .before .before .t .given .1))
 
 examine-table-requires : tie.Need-examine-table-requires
 examine-table-requires c κs =
-    table-handed (opened-yes stateLimit _ _ (c .before .before .before .before .before .before .before .«open» .ensures) (c .before .before .before .before .t .given .1)) (c .before .next-states .ensures)
+    table-handed (opened-yes stateLimit _ _ (c .before .before .before .before .before .before .before .«open» .ensures)
+    (c .before .before .before .before .t .given .1)) (c .before .next-states .ensures)
 
 returns : tie.Need-returns
 unfolding faultAnswer
@@ -25,7 +27,8 @@ returns c =
     let a = c .before .before .before .before .before .before .before .before .args in
     let m = monitorOf (a .body .now) in
     let area = a .area .now in
-    refused-writes stateLimit (a .body .now) (faultQuestions (a .set) (a .domain) (firstWitness m (a .domain) (a .set)) (length area)) (tableFigures m (a .domain) (a .set))
+    refused-writes stateLimit (a .body .now) (faultQuestions (a .set) (a .domain) (firstWitness m (a .domain) (a .set)) (length area))
+    (tableFigures m (a .domain) (a .set))
     (faultTrace (a .body .now) (a .set) (a .domain)) area
     (opened-no stateLimit (a .body .now) _ (c .before .before .before .before .«open» .ensures) (c .before .r .given .1))
 
@@ -34,9 +37,11 @@ unfolding faultAnswer
 returns-2 c =
     let a = c .before .before .before .before .before .before .before .before .before .before .before .before .before .before .args in
     let area = a .area .now in
-    let h = opened-yes stateLimit _ _ (c .before .before .before .before .before .before .before .before .before .before .«open» .ensures) (c .before .before .before .before .before .before .before .t .given .1) in
+    let h = opened-yes stateLimit _ _ (c .before .before .before .before .before .before .before .before .before .before .«open» .ensures)
+    (c .before .before .before .before .before .before .before .t .given .1) in
     let e = c .before .before .examine-table .ensures in
-    opened-writes h (c .before .before .before .before .next-states .ensures) (λ m. faultQuestions (a .set) (a .domain) (firstWitness m (a .domain) (a .set)) (length area))
+    opened-writes h (c .before .before .before .before .next-states .ensures)
+    (λ m. faultQuestions (a .set) (a .domain) (firstWitness m (a .domain) (a .set)) (length area))
     (λ m. tableFigures m (a .domain) (a .set)) (λ m. witnessTrace (firstWitness m (a .domain) (a .set))) area (e .0) (e .1)
 
 pub examine-spec : {M : Type 1} → statement M

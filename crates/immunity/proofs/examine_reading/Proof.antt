@@ -13,12 +13,18 @@ slice-aggregate-read : tie.Need-slice-aggregate-read
 slice-aggregate-read c = filled-count _ _ _ (c .before .before .write-readings .ensures)
 
 distances-requires : tie.Need-distances-requires
-distances-requires c κs = (c .before .before .before .before .before .before .before .pre .rows, sym (filled-count _ _ _ (c .before .before .write-readings .ensures)))
+distances-requires c κs =
+    (c .before .before .before .before .before .before .before .pre .rows, sym (filled-count _ _ _ (c .before .before .write-readings .ensures)))
 
 examine-set-requires : tie.Need-examine-set-requires
 examine-set-requires c κs =
     let p = c .before .before .before .before .before .before .before .before .before .before .pre in
-    record { rows = p .rows; outputs = sym (filled-count _ _ _ (c .before .before .before .before .before .write-readings .ensures)); start-in = p .well-formed .start-in; squared = c .before .before .distances .ensures }
+    record {
+      rows = p .rows;
+      outputs = sym (filled-count _ _ _ (c .before .before .before .before .before .write-readings .ensures));
+      start-in = p .well-formed .start-in;
+      squared = c .before .before .distances .ensures;
+    }
 
 returns : tie.Need-returns
 returns c =

@@ -35,7 +35,8 @@ witness-of-requires : tie.Need-witness-of-requires
 witness-of-requires c κs =
     let s = c .before .before .before .before .before .before .before .before .before .before .before in
     let p = s .pre in
-    let h = searched (s .args .set .bits) p (c .before .before .before .before .before .before .before .costs .ensures) (c .before .before .before .before .before .relax .ensures) in
+    let h = searched (s .args .set .bits) p (c .before .before .before .before .before .before .before .costs .ensures)
+    (c .before .before .before .before .before .relax .ensures) in
     record {
       posed = p;
       costs-are = c .before .before .before .before .before .before .before .costs .ensures;
@@ -48,7 +49,8 @@ returns-3 : tie.Need-returns-3
 returns-3 c =
     let s = c .before .before .before .before .before .before .before .before .before .before .before .before .before .before in
     let p = s .pre in
-    let h = searched (s .args .set .bits) p (c .before .before .before .before .before .before .before .before .before .before .costs .ensures) (c .before .before .before .before .before .before .before .before .relax .ensures) in
+    let h = searched (s .args .set .bits) p (c .before .before .before .before .before .before .before .before .before .before .costs .ensures)
+    (c .before .before .before .before .before .before .before .before .relax .ensures) in
     let low = is-number h (p .start-in) (c .before .before .before .before .before .before .before .if1 .left) in
     let fits = c .before .before .before .before .before .before .if2 .left in
     let w = c .before .before .witness-of in (

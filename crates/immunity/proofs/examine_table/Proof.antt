@@ -20,8 +20,10 @@ returns-2 c =
 
 returns-3 : tie.Need-returns-3
 returns-3 c =
-    let l : c .before .before .before .before .before .before .before .before .before .before .before .args .set ≤ allFaults = omega (arith, c .before .before .before .before .before .before .before .if1 .left) in
-    let known = sym (c .before .before .before .before .before .before .is-reading .ensures) ∙ not-false _ (c .before .before .before .before .before .if2 .left) in
+    let l : c .before .before .before .before .before .before .before .before .before .before .before .args .set ≤ allFaults = omega
+    (arith, c .before .before .before .before .before .before .before .if1 .left) in
+    let known = sym (c .before .before .before .before .before .before .is-reading .ensures)
+    ∙ not-false _ (c .before .before .before .before .before .if2 .left) in
     let e = c .before .before .examine-reading .ensures in
     rw (le-leb _ _ l, known, ← c .before .before .before .before .of .ensures) e
 

@@ -1,13 +1,11 @@
 -- `witness_of` meets its contract.
-use Prim.Native.Nat.{_<_}
 use native.Mathlib.Omega.{arith}
 use lib.ListN.{length}
 use lib.Seq.{length-sets}
 use borrow.Author.Needs.{needs}
-use Rattle.theory.specs.Monitor.{stateLimit}
 use Rattle.monitor.proofs.Rows.{next-of-rows}
 use Rattle.pairs.proofs.Path.{squared-falls}
-use Rattle.immunity.specs.Search.{automatonIn}
+use Rattle.immunity.specs.Search.{automatonIn, Posed}
 use Rattle.immunity.proofs.Search.{search-leads}
 use Rattle.immunity.proofs.Made.{search-ready, Chosen, inside-wider, made-at, made-fits, made-fits-on, made-apart, made-written, made-figures}
 use Rattle.immunity.proofs.witness_of.Statement.{statement}
@@ -45,13 +43,17 @@ write-symbols-requires c κs =
 
 after-requires : tie.Need-after-requires
 after-requires c κs =
-    let f = c .before .before .before .before in
-    (f .before .before .before .before .before .before .before .before .before .pre .posed .rows, (f .before .before .before .before .write-before .ensures .1 .1 .0 .1, f .fault-with .ensures .1 .sent-in))
+    let f = c .before .before .before .before in (
+      f .before .before .before .before .before .before .before .before .before .pre .posed .rows,
+      (f .before .before .before .before .write-before .ensures .1 .1 .0 .1, f .fault-with .ensures .1 .sent-in),
+    )
 
 after-requires-2 : tie.Need-after-requires-2
 after-requires-2 c κs =
-    let f = c .before .before .before .before .before in
-    (f .before .before .before .before .before .before .before .before .before .pre .posed .rows, (f .before .before .before .before .write-before .ensures .1 .1 .0 .1, f .fault-with .ensures .1 .received-in))
+    let f = c .before .before .before .before .before in (
+      f .before .before .before .before .before .before .before .before .before .pre .posed .rows,
+      (f .before .before .before .before .write-before .ensures .1 .1 .0 .1, f .fault-with .ensures .1 .received-in),
+    )
 
 add-at : tie.Need-add-at
 add-at c =
@@ -72,24 +74,25 @@ write-apart-requires c κs =
       p .1,
       q .1,
       made-apart h (chosen f) (p .0) (q .0),
-      made-fits-on h (chosen f) (s .args .area .now) way (c .before .before .before .before .before .before .write-symbols .ensures) (p .0) (q .0) (s .pre .fits),
+      made-fits-on h (chosen f) (s .args .area .now) way (c .before .before .before .before .before .before .write-symbols .ensures) (p .0) (q .0)
+          (s .pre .fits),
     )
 
--- the start stands in the totals
-start-low : (c : tie.After-write-apart) → (let s = c .before .before .before .before .before .before .before .before .before .before .before .before .before .before .before .before .before .before in s .args .t .start < stateLimit)
-start-low c = (let p = c .before .before .before .before .before .before .before .before .before .before .before .before .before .before .before .before .before .before .pre .posed in omega (arith, p .start-in, p .rows .states-most))
+posed : (c : tie.After-write-apart)
+    → (let a = c .before .before .before .before .before .before .before .before .before .before .before .before .before .before .before .before .before .before .args in Posed (a .t) (a .outputs .now) (a .square .now) (a .nexts .now))
+posed c = (let f = c .before .before .before .before .before .before .before .before .before in f .before .before .before .before .before .before .before .before .before .pre .posed)
 
 mul-t25 : tie.Need-mul-t25
-mul-t25 c = omega (arith, start-low (c .before .before))
+mul-t25 c = (let p = posed (c .before .before) in omega (arith, p .start-in, p .rows .states-most))
 
 element-copy-out-t28 : tie.Need-element-copy-out-t28
-element-copy-out-t28 c = start-low (c .before .before)
+element-copy-out-t28 c = (let p = posed (c .before .before) in omega (arith, p .start-in, p .rows .states-most))
 
 shared-slice-read-t37 : tie.Need-shared-slice-read-t37
-shared-slice-read-t37 c = omega (arith, c .before .before .before .before .write-apart .ensures .1 .0 .1, c .before .before .before .before .before .before .before .before .before .before .before .before .before .before .before .before .before .before .before .before .before .before .pre .posed .outputs)
+shared-slice-read-t37 c = (let w = c .before .before .before .before in omega (arith, w .write-apart .ensures .1 .0 .1, posed w .outputs))
 
 shared-slice-read-t40 : tie.Need-shared-slice-read-t40
-shared-slice-read-t40 c = omega (arith, c .before .before .before .before .before .write-apart .ensures .1 .1 .1, c .before .before .before .before .before .before .before .before .before .before .before .before .before .before .before .before .before .before .before .before .before .before .before .pre .posed .outputs)
+shared-slice-read-t40 c = (let w = c .before .before .before .before .before in omega (arith, w .write-apart .ensures .1 .1 .1, posed w .outputs))
 
 cast-t38 : tie.Need-cast-t38
 cast-t38 c = omega (arith, c .shared-slice-known3 .given (c .before .before .before .before .write-apart .result .sent))
@@ -100,8 +103,8 @@ cast-t41 c = omega (arith, c .shared-slice-known4 .given (c .before .before .bef
 same-length : tie.Need-same-length
 same-length c =
     let w = c .before .before .before .before .before in
-    let f = w .before .before .before .before .before .before .before .before .before in
-    rw (w .write-apart .ensures .0, length-sets, w .before .before .before .before .before .before .before .write-symbols .ensures, length-sets, f .before .before .before .before .write-before .ensures .0, length-sets)
+    let way = w .before .before .before .before .before .before .before .before .before .before .before .before .before .write-before .ensures .0 in
+    rw (w .write-apart .ensures .0, length-sets, w .before .before .before .before .before .before .before .write-symbols .ensures, length-sets, way, length-sets)
 
 returns : tie.Need-returns
 returns c =
@@ -114,7 +117,8 @@ returns c =
     let way = f .before .before .before .before .write-before .ensures .0 in
     let e = w .write-apart .ensures in (
       λ z i. made-figures h (chosen f) (s .args .outputs .now) i p q (e .1 .0 .0) (e .1 .1 .0),
-      λ z i. made-written h (chosen f) (s .args .area .now) i way (w .before .before .before .before .before .before .before .write-symbols .ensures) p q (e .0),
+      λ z i. made-written h (chosen f) (s .args .area .now) i way
+          (w .before .before .before .before .before .before .before .write-symbols .ensures) p q (e .0),
     )
 
 pub witness-of-spec : {M : Type 1} → statement M

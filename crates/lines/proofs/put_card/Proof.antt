@@ -6,9 +6,14 @@ use Rattle.lines.proofs.put_card.Tie as tie
 
 returns : tie.Need-returns
 returns c =
-    let s = c .before .before .before .before .before .before .before .before .before .before .before .before .before .before .before .before .before .before .before .before .before .before in
-    let front = then (c .before .before .before .before .before .before .before .before .before .before .before .before .before .before .before .before .before .before .before .put-number .ensures .0) (then (c .before .before .before .before .before .before .before .before .before .before .before .before .before .before .before .put-figure .ensures .0) (c .before .before .before .before .before .before .before .before .before .before .before .put-monitorability .ensures .0)) in
-    line-of (s .args .rule) (s .args .states) (s .args .monitorability) (s .args .columns) front (then (c .before .before .before .before .before .before .before .put-columns .ensures .0) (c .before .before .put .ensures))
+    let columns = c .before .before .before .before .before .before .before in
+    let word = columns .before .before .before .before in
+    let figure = word .before .before .before .before in
+    let number = figure .before .before .before .before in
+    let a = number .before .before .before .args in
+    line-of (a .rule) (a .states) (a .monitorability) (a .columns)
+    (then (number .put-number .ensures .0) (then (figure .put-figure .ensures .0) (word .put-monitorability .ensures .0)))
+    (then (columns .put-columns .ensures .0) (c .before .before .put .ensures))
 
 pub put-card-spec : {M : Type 1} → statement M
 put-card-spec =

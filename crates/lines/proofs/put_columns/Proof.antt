@@ -27,7 +27,9 @@ loop-again : tie.Need-loop-again Inv-loop μ-loop
 loop-again c =
     let s = c .before .before .before .before .before .before .before .before in
     let l = c .before .before .before .before .before .loop-test .taken in
-    columns-more _ (c .before .before .before .before .before .before .loop .inv) l (take-suc (s .args .t1) (c .before .before .before .before .before .before .loop .rank) _ (omega (arith, l, s .pre .0))) (c .before .before .put-distance .ensures)
+    columns-more _ (c .before .before .before .before .before .before .loop .inv) l
+    (take-suc (s .args .t1) (c .before .before .before .before .before .before .loop .rank) _ (omega (arith, l, s .pre .0)))
+    (c .before .before .put-distance .ensures)
 
 returns : tie.Need-returns Inv-loop μ-loop
 returns c = columns-all (c .before .loop .inv) (c .loop-test .left) (c .before .before .before .pre .0)

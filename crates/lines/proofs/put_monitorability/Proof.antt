@@ -15,7 +15,8 @@ returns-3 : tie.Need-returns-3
 returns-3 c = text-put 5 (both-word (c .before .before .before .before .before .match .keys3)) (omega arith) (c .before .before .put3 .ensures)
 
 returns-4 : tie.Need-returns-4
-returns-4 c = (let k = c .before .before .before .before .before .match .rest in text-put 5 (none-word (k .0 .0 .1) (k .0 .1) (k .1)) (omega arith) (c .before .before .put4 .ensures))
+returns-4 c = (let k = c .before .before .before .before .before .match .rest in
+    text-put 5 (none-word (k .0 .0 .1) (k .0 .1) (k .1)) (omega arith) (c .before .before .put4 .ensures))
 
 pub put-monitorability-spec : {M : Type 1} → statement M
 put-monitorability-spec =

@@ -8,7 +8,8 @@ use Rattle.lines.proofs.put_no_distance.Tie as tie
 returns : tie.Need-returns
 returns c =
     let s = c .before .before .before .before .before .before .before in
-    text-put 21 (refused-word (s .args .finding) (s .pre .1) (c .before .before .before .before .before .match .keys2)) (omega arith) (c .before .before .put .ensures)
+    text-put 21 (refused-word (s .args .finding) (s .pre .1) (c .before .before .before .before .before .match .keys2)) (omega arith)
+    (c .before .before .put .ensures)
 
 returns-2 : tie.Need-returns-2
 returns-2 c = text-put 21 (rw (c .before .before .before .before .before .enum-told .given .1)) (omega arith) (c .before .before .put2 .ensures)

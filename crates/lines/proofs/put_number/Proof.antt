@@ -6,10 +6,12 @@ use Rattle.lines.proofs.put_number.Statement.{statement}
 use Rattle.lines.proofs.put_number.Tie as tie
 
 put-requires : tie.Need-put-requires
-put-requires c κs = (let d = c .before .before .decimal .ensures in let l = number-short _ _ _ (d .1 .0) (d .1 .1) (search needs) in omega (arith, l, c .before .before .before .before .before .pre))
+put-requires c κs = (let d = c .before .before .decimal .ensures in let l = number-short _ _ _ (d .1 .0) (d .1 .1) (search needs) in
+    omega (arith, l, c .before .before .before .before .before .pre))
 
 returns : tie.Need-returns
-returns c = (let d = c .before .before .before .before .before .decimal .ensures in number-put _ _ _ (d .1 .0) (d .1 .1) (search needs) (c .before .before .put .ensures))
+returns c = (let d = c .before .before .before .before .before .decimal .ensures in
+    number-put _ _ _ (d .1 .0) (d .1 .1) (search needs) (c .before .before .put .ensures))
 
 pub put-number-spec : {M : Type 1} → statement M
 put-number-spec = tie.close (tie.spec (λ c κs. search needs) (λ c. search needs) (λ c. search needs) put-requires (λ c. search needs) returns)

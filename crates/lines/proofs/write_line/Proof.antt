@@ -39,8 +39,10 @@ returns-2 : tie.Need-returns-2
 returns-2 c =
     let a = c .before .before .before .before .before .before .before .before .before .before .before .args in
     let p = c .before .before .before .before .before .before .before .put-rule .ensures in
-    let fits = c .before .before .before .before .before .if1 .left in
-    (line-fits stateLimit (a .rule) (a .body .now) p (a .area .now) fits, c .before .before .copy .ensures .1 ∙ line-written stateLimit (a .rule) (a .body .now) p (a .area .now) fits)
+    let fits = c .before .before .before .before .before .if1 .left in (
+      line-fits stateLimit (a .rule) (a .body .now) p (a .area .now) fits,
+      c .before .before .copy .ensures .1 ∙ line-written stateLimit (a .rule) (a .body .now) p (a .area .now) fits,
+    )
 
 pub write-line-spec : {M : Type 1} → statement M
 write-line-spec =

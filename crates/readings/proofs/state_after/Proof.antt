@@ -25,8 +25,11 @@ cast-successor c = omega (arith, c .shared-slice-known3 .given (c .before .befor
 
 successor-requires : tie.Need-successor-requires Inv-loop μ-loop
 successor-requires c κs =
-    let start = c .before .before .before .before .before in
-    (start .pre .0, c .before .before .loop .inv .0, all-below (start .args .k) (start .args .symbols .now) (start .pre .2) (c .before .before .loop .i) (c .before .loop-test .taken))
+    let start = c .before .before .before .before .before in (
+      start .pre .0,
+      c .before .before .loop .inv .0,
+      all-below (start .args .k) (start .args .symbols .now) (start .pre .2) (c .before .before .loop .i) (c .before .loop-test .taken),
+    )
 
 loop-again : tie.Need-loop-again Inv-loop μ-loop
 loop-again c =

@@ -12,7 +12,8 @@ array-share-prefix-marks : tie.Need-array-share-prefix-marks
 array-share-prefix-marks c = marks-lie (opened-yes stateLimit _ _ (c .before .before .before .before .«open» .ensures) (c .before .t .given .1))
 
 slice-aggregate-step-table : tie.Need-slice-aggregate-step-table
-slice-aggregate-step-table c = marks-counted (opened-yes stateLimit _ _ (c .before .before .before .before .before .«open» .ensures) (c .before .before .t .given .1))
+slice-aggregate-step-table c =
+    marks-counted (opened-yes stateLimit _ _ (c .before .before .before .before .before .«open» .ensures) (c .before .before .t .given .1))
 
 step-table-requires : tie.Need-step-table-requires
 step-table-requires c κs =
@@ -31,8 +32,10 @@ returns-2 : tie.Need-returns-2
 unfolding stepAnswer
 returns-2 c =
     let a = c .before .before .before .before .before .before .before .before .before .before .args in
-    let h = opened-yes stateLimit _ _ (c .before .before .before .before .before .before .before .«open» .ensures) (c .before .before .before .before .t .given .1) in
-    c .step-table .ensures ∙ opened-asks h (c .before .next-states .ensures) (stepQuestions (a .domain) (a .state) (a .symbol)) (stepFigures (a .domain) (a .state) (a .symbol))
+    let h = opened-yes stateLimit _ _ (c .before .before .before .before .before .before .before .«open» .ensures)
+    (c .before .before .before .before .t .given .1) in
+    c .step-table .ensures ∙ opened-asks h (c .before .next-states .ensures) (stepQuestions (a .domain) (a .state) (a .symbol))
+    (stepFigures (a .domain) (a .state) (a .symbol))
 
 pub step-spec : {M : Type 1} → statement M
 step-spec =

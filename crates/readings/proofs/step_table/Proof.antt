@@ -28,7 +28,8 @@ unfolding first
 returns-4 c =
     let a = c .before .before .before .before .before .before .before .before .before .before .args in
     let to = c .before .successor .ensures .0 in
-    let known = sym (c .before .before .before .before .before .before .before .is-reading .ensures) ∙ not-false _ (c .before .before .before .before .before .before .if1 .left) in
+    let known = sym (c .before .before .before .before .before .before .before .is-reading .ensures)
+    ∙ not-false _ (c .before .before .before .before .before .before .if1 .left) in
     rw (known, lt-ltb _ _ (c .before .before .before .before .if2 .left), lt-leb _ _ (c .before .before .if3 .left))
     (ap₂ (λ (x y : ℕ). answered (x ∷ y ∷ [])) to (reads-at (monitorIn (a .t) (a .marks) (a .nexts)) (a .domain) to (c .read .ensures)))
 

@@ -12,7 +12,8 @@ array-share-prefix-marks : tie.Need-array-share-prefix-marks
 array-share-prefix-marks c = marks-lie (opened-yes stateLimit _ _ (c .before .before .before .before .«open» .ensures) (c .before .t .given .1))
 
 slice-aggregate-trace-table : tie.Need-slice-aggregate-trace-table
-slice-aggregate-trace-table c = marks-counted (opened-yes stateLimit _ _ (c .before .before .before .before .before .«open» .ensures) (c .before .before .t .given .1))
+slice-aggregate-trace-table c =
+    marks-counted (opened-yes stateLimit _ _ (c .before .before .before .before .before .«open» .ensures) (c .before .before .t .given .1))
 
 trace-table-requires : tie.Need-trace-table-requires
 trace-table-requires c κs =
@@ -31,8 +32,10 @@ returns-2 : tie.Need-returns-2
 unfolding traceAnswer
 returns-2 c =
     let a = c .before .before .before .before .before .before .before .before .before .before .before .args in
-    let h = opened-yes stateLimit _ _ (c .before .before .before .before .before .before .before .«open» .ensures) (c .before .before .before .before .t .given .1) in
-    c .trace-table .ensures ∙ opened-asks h (c .before .next-states .ensures) (traceQuestions (a .domain) (a .symbols .now)) (traceFigures (a .domain) (a .symbols .now))
+    let h = opened-yes stateLimit _ _ (c .before .before .before .before .before .before .before .«open» .ensures)
+    (c .before .before .before .before .t .given .1) in
+    c .trace-table .ensures ∙ opened-asks h (c .before .next-states .ensures) (traceQuestions (a .domain) (a .symbols .now))
+    (traceFigures (a .domain) (a .symbols .now))
 
 pub trace-spec : {M : Type 1} → statement M
 trace-spec =

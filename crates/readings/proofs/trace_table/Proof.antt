@@ -26,13 +26,17 @@ returns-2 c =
 
 state-after-requires : tie.Need-state-after-requires
 state-after-requires c κs =
-    let s = c .before .before .before .before .before .before .before .before in
-    (s .pre .rows, s .pre .well-formed .start-in, symbols-below (s .args .symbols .now) (s .args .t .symbols) (c .before .first-not-below .ensures) (c .if2 .left))
+    let s = c .before .before .before .before .before .before .before .before in (
+      s .pre .rows,
+      s .pre .well-formed .start-in,
+      symbols-below (s .args .symbols .now) (s .args .t .symbols) (c .before .first-not-below .ensures) (c .if2 .left),
+    )
 
 returns-3 : tie.Need-returns-3
 returns-3 c =
     let a = c .before .before .before .before .before .before .before .before .before .before .args in
-    let known = sym (c .before .before .before .before .before .before .is-reading .ensures) ∙ not-false _ (c .before .before .before .before .before .if1 .left) in
+    let known = sym (c .before .before .before .before .before .before .is-reading .ensures)
+    ∙ not-false _ (c .before .before .before .before .before .if1 .left) in
     let all = symbols-below (a .symbols .now) (a .t .symbols) (c .before .before .before .first-not-below .ensures) (c .before .before .if2 .left) in
     rw (known, eq-eqb (firstNotBelow (a .t .symbols) (a .symbols .now)) (length (a .symbols .now)) all)
     (ap (λ (x : ℕ). answered (x ∷ [])) (reads-at (monitorIn (a .t) (a .marks) (a .nexts)) (a .domain) (c .before .state-after .ensures .0) (c .read .ensures)))

@@ -19,7 +19,8 @@ returns c =
     let m = monitorIn (a .t) (a .marks) (a .nexts) in
     let l = start .pre .0 .marks-length in
     c .before .before .copy .ensures .1
-    ∙ ap (λ (front : List ℕ). front ++ drop (length (a .marks .now)) (a .area .now)) (sym (values-front (a .marks .now) (length (a .marks .now)) (le-refl (length (a .marks .now)))))
+    ∙ ap (λ (front : List ℕ). front ++ drop (length (a .marks .now)) (a .area .now))
+    (sym (values-front (a .marks .now) (length (a .marks .now)) (le-refl (length (a .marks .now)))))
     ∙ filled-same (m .verdict) (reading m (a .domain)) (a .area .now) l (λ q _. reads-mark m (a .domain) q (c .before .before .before .before .if1 .taken))
 
 returns-2 : tie.Need-returns-2
