@@ -77,16 +77,16 @@ ugly-class {m = m} w q l =
     go (suc (suc zero)) e r t a f b = rw (sym b ∙ own 2 e) (sym (and-false (not t)))
     go (suc (suc (suc v))) e r t a f b = absurd (omega arith)
 
-module _ (k s : ℕ) (vs ts : List ℕ) {n : ℕ} {t f : StateSet} (et : Exactly n (leads (automatonOf n k ts) (hasMark vs 1)) t)
+module _ {n k s : ℕ} {vs ts : List ℕ} (table : Table stateLimit n k s vs ts) {t f : StateSet} (et : Exactly n (leads (automatonOf n k ts) (hasMark vs 1)) t)
     (ef : Exactly n (leads (automatonOf n k ts) (hasMark vs 2)) f) where
   pub class-by-is : (q : ℕ) → q < n → classBy vs t f q ≡ class (tableOf n k s vs ts) q
   unfolding class
   class-by-is q l = rw (exactly-in et q l, exactly-in ef q l)
 
-  pub area-is : length vs ≡ n → (area : List ℕ) → filled (classBy vs t f) area (length vs) ≡ filled (class (tableOf n k s vs ts)) area n
-  area-is l area = filled-same (classBy vs t f) (class (tableOf n k s vs ts)) area l class-by-is
+  pub area-is : (area : List ℕ) → filled (classBy vs t f) area (length vs) ≡ filled (class (tableOf n k s vs ts)) area n
+  area-is area = filled-same (classBy vs t f) (class (tableOf n k s vs ts)) area (table .marks-length) class-by-is
 
-  module _ (table : Table stateLimit n k s vs ts) {r : StateSet} (er : Exactly n (reachedFrom (automatonOf n k ts) s) r) where
+  module _ {r : StateSet} (er : Exactly n (reachedFrom (automatonOf n k ts) s) r) where
     reached-is : count stateLimit (member r) ≡ statesReached (tableOf n k s vs ts)
     unfolding statesReached
     reached-is =

@@ -67,7 +67,7 @@ found-length (column ∷ columns) = rw (found-length columns)
 
 -- ---- the line of a rule, by its card
 
-module _ (limit : ℕ) (b : List ℕ) (rule : ℕ) (card : LinkCard) (e : carded card ≡ cardAnswer limit b) where
+module _ (limit : ℕ) (b : List ℕ) (card : LinkCard) (e : carded card ≡ cardAnswer limit b) where
   abbrev m : Monitor
   m = monitorOf b
 
@@ -86,9 +86,9 @@ module _ (limit : ℕ) (b : List ℕ) (rule : ℕ) (card : LinkCard) (e : carded
   unfolding each
   columns-counted = found-length (card .columns) ∙ ap length columns
 
-  pub rule-carded : {n y : ℕ} → card .summary ≡ Summary.Table n y → shownLine rule n y (card .columns) ≡ ruleLine limit rule b
+  pub rule-carded : (rule : ℕ) {n y : ℕ} → card .summary ≡ Summary.Table n y → shownLine rule n y (card .columns) ≡ ruleLine limit rule b
   unfolding ruleLine judgeAnswer
-  rule-carded {n} {y} h =
+  rule-carded rule {n} {y} h =
       let passed : asks (tableQuestions limit b) (summaryFigures m) ≡ answered (n ∷ y ∷ []) = sym summary ∙ ap summarised h in
       let accepts : (values : List ℕ)
       → asks (tableQuestions limit b) values ≡ answered values = λ values. asks-other (tableQuestions limit b) (summaryFigures m) values passed in
@@ -100,9 +100,9 @@ module _ (limit : ℕ) (b : List ℕ) (rule : ℕ) (card : LinkCard) (e : carded
       let monitorable : monitorability m ≡ y = ap (λ (l : List ℕ). getD l 1 0) values in
       rw (texts, ← states, ← monitorable, accepts [])
 
-  pub rule-refused : {x : Refusal} → card .summary ≡ Summary.Refused x → refusalLine rule (x .number) (x .place) ≡ ruleLine limit rule b
+  pub rule-refused : (rule : ℕ) {x : Refusal} → card .summary ≡ Summary.Refused x → refusalLine rule (x .number) (x .place) ≡ ruleLine limit rule b
   unfolding ruleLine judgeAnswer
-  rule-refused h = rw (asks-refuses (tableQuestions limit b) (summaryFigures m) [] (sym summary ∙ ap summarised h))
+  rule-refused rule h = rw (asks-refuses (tableQuestions limit b) (summaryFigures m) [] (sym summary ∙ ap summarised h))
 
 -- the line of a rule, put at the front of a buffer
 module _ (limit rule : ℕ) (body : List ℕ) {before after : List ℕ} {to : ℕ} (p : Put (ruleLine limit rule body) before 0 after to) where

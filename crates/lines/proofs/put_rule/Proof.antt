@@ -7,26 +7,17 @@ use Rattle.lines.proofs.put_rule.Statement.{statement}
 use Rattle.lines.proofs.put_rule.Tie as tie
 
 put-card-requires : tie.Need-put-card-requires
-put-card-requires c κs =
-    let s = c .before .before .before .before .before .before .before .before in (
-      columns-counted stateLimit (s .args .body .now) (s .args .rule) (c .before .before .before .before .before .card .result)
-          (c .before .before .before .before .before .card .ensures),
-      s .pre,
-    )
+put-card-requires c κs = (let k = c .before .before .before .before .before .card in (columns-counted stateLimit _ (k .result) (k .ensures), c .before .before .before .before .before .before .before .before .pre))
 
 returns : tie.Need-returns
 returns c =
-    let a = c .before .before .before .before .before .before .before .before .before .before .before .args in
-    put-as (rule-carded stateLimit (a .body .now) (a .rule) (c .before .before .before .before .before .before .before .before .card .result)
-    (c .before .before .before .before .before .before .before .before .card .ensures) (c .before .before .before .before .before .summary .given .1))
-    (c .before .before .put-card .ensures)
+    let k = c .before .before .before .before .before .before .before .before .card in
+    put-as (rule-carded stateLimit _ (k .result) (k .ensures) _ (c .before .before .before .before .before .summary .given .1)) (c .before .before .put-card .ensures)
 
 returns-2 : tie.Need-returns-2
 returns-2 c =
-    let a = c .before .before .before .before .before .before .before .before .before .before .before .args in
-    put-as (rule-refused stateLimit (a .body .now) (a .rule) (c .before .before .before .before .before .before .before .before .card .result)
-    (c .before .before .before .before .before .before .before .before .card .ensures) (c .before .before .before .before .before .summary2 .given .1))
-    (c .before .before .put-refusal .ensures)
+    let k = c .before .before .before .before .before .before .before .before .card in
+    put-as (rule-refused stateLimit _ (k .result) (k .ensures) _ (c .before .before .before .before .before .summary2 .given .1)) (c .before .before .put-refusal .ensures)
 
 pub put-rule-spec : {M : Type 1} → statement M
 put-rule-spec =
