@@ -10,7 +10,7 @@ use lib.ListN.{length, getD, set}
 use lib.Seq.{sets, length-sets}
 use borrow.Author.Tests.{eqb-true}
 use Rattle.theory.specs.Lists.{find}
-use Rattle.theory.specs.Automaton.{Automaton, Closed, run}
+use Rattle.theory.specs.Automaton.{Automaton, run}
 use Rattle.theory.specs.Faults.{FaultStep, steps}
 use Rattle.theory.specs.Series.{Series, sentTrace, receivedTrace}
 use Rattle.theory.specs.Computed.{firstHarmful}
@@ -18,7 +18,7 @@ use Rattle.theory.proofs.Lists.{find-in, some-same}
 use Rattle.theory.proofs.Witness.{run-parts, sent-length}
 use Rattle.monitor.specs.declared.Shape.{Shape}
 use Rattle.monitor.proofs.Rows.{next-of-rows}
-use Rattle.pairs.specs.Square.{never, entry, Squared, differing, path}
+use Rattle.pairs.specs.Square.{never, entry, differing, path}
 use Rattle.pairs.proofs.Path.{path-length}
 use Rattle.faults.specs.declared.Symbols.{Symbols}
 use Rattle.faults.specs.declared.Fault.{Fault}

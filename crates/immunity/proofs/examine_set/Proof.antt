@@ -21,7 +21,7 @@ seen : (c : tie.After-relax)
     → (let a = c .before .before .before .before .before .before .args in
     Searched (automatonIn (a .t) (a .nexts .now)) (differing (a .outputs .now)) (a .set .bits) (a .square .now) (c .before .before .costs .result)
     (c .relax .last .0))
-seen c = (let s = c .before .before .before .before .before .before in searched (s .args .set .bits) (s .pre) (c .before .before .costs .ensures) (c .relax .ensures))
+seen c = searched _ (c .before .before .before .before .before .before .pre) (c .before .before .costs .ensures) (c .relax .ensures)
 
 returns : tie.Need-returns
 returns c =

@@ -1,6 +1,5 @@
 -- `witness_of` meets its contract.
 use native.Mathlib.Omega.{arith}
-use lib.ListN.{length}
 use lib.Seq.{length-sets}
 use borrow.Author.Needs.{needs}
 use Rattle.monitor.proofs.Rows.{next-of-rows}
@@ -79,8 +78,12 @@ write-apart-requires c κs =
     )
 
 posed : (c : tie.After-write-apart)
-    → (let a = c .before .before .before .before .before .before .before .before .before .before .before .before .before .before .before .before .before .before .args in Posed (a .t) (a .outputs .now) (a .square .now) (a .nexts .now))
-posed c = (let f = c .before .before .before .before .before .before .before .before .before in f .before .before .before .before .before .before .before .before .before .pre .posed)
+    → (let f = c .before .before .before .before .before .before .before .before .before in
+    let a = f .before .before .before .before .before .before .before .before .before .args in
+    Posed (a .t) (a .outputs .now) (a .square .now) (a .nexts .now))
+posed c =
+    let f = c .before .before .before .before .before .before .before .before .before in
+    f .before .before .before .before .before .before .before .before .before .pre .posed
 
 mul-t25 : tie.Need-mul-t25
 mul-t25 c = (let p = posed (c .before .before) in omega (arith, p .start-in, p .rows .states-most))
@@ -104,7 +107,8 @@ same-length : tie.Need-same-length
 same-length c =
     let w = c .before .before .before .before .before in
     let way = w .before .before .before .before .before .before .before .before .before .before .before .before .before .write-before .ensures .0 in
-    rw (w .write-apart .ensures .0, length-sets, w .before .before .before .before .before .before .before .write-symbols .ensures, length-sets, way, length-sets)
+    let fault = w .before .before .before .before .before .before .before .write-symbols .ensures in
+    rw (w .write-apart .ensures .0, length-sets, fault, length-sets, way, length-sets)
 
 returns : tie.Need-returns
 returns c =

@@ -7,17 +7,21 @@ use Rattle.lines.proofs.put_rule.Statement.{statement}
 use Rattle.lines.proofs.put_rule.Tie as tie
 
 put-card-requires : tie.Need-put-card-requires
-put-card-requires c κs = (let k = c .before .before .before .before .before .card in (columns-counted stateLimit _ (k .result) (k .ensures), c .before .before .before .before .before .before .before .before .pre))
+put-card-requires c κs =
+    let k = c .before .before .before .before .before in
+    (columns-counted stateLimit _ (k .card .result) (k .card .ensures), k .before .before .before .pre)
 
 returns : tie.Need-returns
 returns c =
     let k = c .before .before .before .before .before .before .before .before .card in
-    put-as (rule-carded stateLimit _ (k .result) (k .ensures) _ (c .before .before .before .before .before .summary .given .1)) (c .before .before .put-card .ensures)
+    let is = c .before .before .before .before .before .summary .given .1 in
+    put-as (rule-carded stateLimit _ (k .result) (k .ensures) _ is) (c .before .before .put-card .ensures)
 
 returns-2 : tie.Need-returns-2
 returns-2 c =
     let k = c .before .before .before .before .before .before .before .before .card in
-    put-as (rule-refused stateLimit _ (k .result) (k .ensures) _ (c .before .before .before .before .before .summary2 .given .1)) (c .before .before .put-refusal .ensures)
+    let is = c .before .before .before .before .before .summary2 .given .1 in
+    put-as (rule-refused stateLimit _ (k .result) (k .ensures) _ is) (c .before .before .put-refusal .ensures)
 
 pub put-rule-spec : {M : Type 1} → statement M
 put-rule-spec =

@@ -2,9 +2,7 @@
 use mathlib.Core.Path.{sym, _∙_}
 use native.Mathlib.Omega.{arith}
 use borrow.Author.Needs.{needs}
-use Rattle.theory.specs.Monitor.{stateLimit}
 use Rattle.theory.proofs.Answer.{untouched}
-use Rattle.lines.specs.Line.{ruleLine}
 use Rattle.lines.proofs.Shown.{line-refused, line-inside, line-counted, line-fits, line-written}
 use Rattle.lines.proofs.write_line.Statement.{statement}
 use Rattle.lines.proofs.write_line.Tie as tie
