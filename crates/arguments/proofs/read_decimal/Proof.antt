@@ -41,9 +41,6 @@ sub-digit c = digit-least _ (digit c)
 cast-digit : tie.Need-cast-digit Inv-loop μ-loop
 cast-digit c = omega (arith, c .shared-slice-known3 .given (c .before .before .before .before .before .loop .i))
 
-mul-least-of : tie.Need-mul-least-of Inv-loop μ-loop
-mul-least-of c = omega (arith, c .before .before .before .before .before .loop .inv .small)
-
 add-least-of : tie.Need-add-least-of Inv-loop μ-loop
 add-least-of c = (let at = c .before .before .before .before .before .loop in omega (arith, at .inv .small, c .shared-slice-known3 .given (at .i)))
 
@@ -58,4 +55,4 @@ returns-3 c = reads-all (c .before .loop .inv) (omega (arith, c .before .before 
 pub read-decimal-spec : {M : Type 1} → statement M
 read-decimal-spec =
     tie.close (tie.spec Inv-loop μ-loop returns loop-holds (λ c. search needs) (λ c κs. search needs) returns-2 (λ c. search needs) sub-digit cast-digit
-    mul-least-of add-least-of (λ c κs. search needs) (λ c. search needs) (λ c. search needs) loop-again returns-3)
+    (λ c. search needs) add-least-of (λ c κs. search needs) (λ c. search needs) (λ c. search needs) loop-again returns-3)

@@ -16,21 +16,27 @@ abbrev Left : List ℕ → List Question → Type 0
 Left file questions = collectionAnswer file ≡ asks questions (countOf file ∷ [])
 
 three : (c : tie.After-first-no)
-    → (let file = c .before .before .before .before .before .before .args .file .now in Left file (question23 (ruleOf file) (countOf file) ∷ question24 file ∷ question25 file ∷ []))
+    → (let file = c .before .before .before .before .before .before .args .file .now in
+    Left file (question23 (ruleOf file) (countOf file) ∷ question24 file ∷ question25 file ∷ []))
 unfolding collectionAnswer
 three c =
     let read = c .before .before .before in
-    rw (← (read .two-bytes-at .ensures .0), le-leb 2 _ (read .before .if1 .left), le-leb _ 512 (c .before .before .if2 .left), le-leb _ _ (c .before .if3 .left))
+    let few = le-leb _ 512 (c .before .before .if2 .left) in
+    rw (← (read .two-bytes-at .ensures .0), le-leb 2 _ (read .before .if1 .left), few, le-leb _ _ (c .before .if3 .left))
 
-four : (c : tie.After-first-no2) → (let file = c .before .before .before .before .before .before .before .before .args .file .now in Left file (question24 file ∷ question25 file ∷ []))
+four : (c : tie.After-first-no2)
+    → (let file = c .before .before .before .before .before .before .before .before .args .file .now in
+    Left file (question24 file ∷ question25 file ∷ []))
 four c =
-    let found = c .before .before .first-no .ensures in
-    three (c .before .before) ∙ rw (found-none _ (c .before .before .before .before .before .two-bytes-at .ensures .0) found (c .before .if4 .left))
+    let count = c .before .before .before .before .before .two-bytes-at .ensures .0 in
+    three (c .before .before) ∙ rw (found-none _ count (c .before .before .first-no .ensures) (c .before .if4 .left))
 
-five : (c : tie.After-start-of-body) → (let file = c .before .before .before .before .before .before .before .before .before .before .args .file .now in Left file (question25 file ∷ []))
+five : (c : tie.After-start-of-body)
+    → (let file = c .before .before .before .before .before .before .before .before .before .before .args .file .now in
+    Left file (question25 file ∷ []))
 five c =
-    let found = c .before .before .first-no2 .ensures in
-    four (c .before .before) ∙ rw (found-none _ (c .before .before .before .before .before .before .before .two-bytes-at .ensures .0) found (c .before .if5 .left))
+    let count = c .before .before .before .before .before .before .before .two-bytes-at .ensures .0 in
+    four (c .before .before) ∙ rw (found-none _ count (c .before .before .first-no2 .ensures) (c .before .if5 .left))
 
 returns : tie.Need-returns
 unfolding collectionAnswer

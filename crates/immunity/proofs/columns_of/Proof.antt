@@ -25,13 +25,6 @@ loop-holds c =
     let a = c .before .before .before .before .args in
     (filled-none (alone-in (monitorIn (a .t) (a .marks) (a .nexts))) _, c .scratch .ensures)
 
-finding-in-requires : tie.Need-finding-in-requires Inv-loop μ-loop
-finding-in-requires c κs = (
-  c .before .before .before .before .before .before .before .before .before .before .before .pre,
-  c .before .before .before .before .before .before .before .before .distances .ensures,
-  c .before .before .before .before .before .before .loop .inv .1,
-)
-
 loop-again : tie.Need-loop-again Inv-loop μ-loop
 loop-again c =
     let a = c .before .before .before .before .before .before .before .before .before .before .before .before .before .args in
@@ -49,5 +42,5 @@ returns c =
 pub columns-of-spec : {M : Type 1} → statement M
 columns-of-spec =
     tie.close (tie.spec Inv-loop μ-loop (λ c κs. search needs) (λ c κs. search needs) loop-holds (λ c κs. search needs) (λ c κs. search needs)
-    (λ c κs. search needs) (λ c. search needs) finding-in-requires (λ c. search needs) (λ c. search needs) (λ c. search needs) (λ c. search needs) loop-again
+    (λ c κs. search needs) (λ c. search needs) (λ c κs. search needs) (λ c. search needs) (λ c. search needs) (λ c. search needs) (λ c. search needs) loop-again
     returns)

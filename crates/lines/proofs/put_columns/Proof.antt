@@ -17,12 +17,6 @@ abbrev μ-loop : tie.MeasureT-loop
 loop-holds : tie.Need-loop-holds Inv-loop μ-loop
 loop-holds c = (let a = c .before .args in columns-none (a .t1) (a .buffer .now) (a .at))
 
-put-distance-requires : tie.Need-put-distance-requires Inv-loop μ-loop
-put-distance-requires c κs =
-    let s = c .before .before .before .before .before in
-    let h = c .before .before .before .loop .inv in
-    omega (arith, s .pre .1, h .room, h .put .same, c .before .before .loop-test .taken)
-
 loop-again : tie.Need-loop-again Inv-loop μ-loop
 loop-again c =
     let s = c .before .before .before .before .before .before .before .before in
@@ -36,5 +30,5 @@ returns c = columns-all (c .before .loop .inv) (c .loop-test .left) (c .before .
 
 pub put-columns-spec : {M : Type 1} → statement M
 put-columns-spec =
-    tie.close (tie.spec Inv-loop μ-loop loop-holds (λ c. search needs) (λ c. search needs) put-distance-requires (λ c. search needs) (λ c. search needs)
+    tie.close (tie.spec Inv-loop μ-loop loop-holds (λ c. search needs) (λ c. search needs) (λ c κs. search needs) (λ c. search needs) (λ c. search needs)
     loop-again (λ c. search needs) returns)

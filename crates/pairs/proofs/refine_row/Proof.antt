@@ -23,11 +23,6 @@ abbrev μ-loop : tie.MeasureT-loop
 loop-holds : tie.Need-loop-holds Inv-loop μ-loop
 loop-holds c = (search needs, search needs, λ ends w. rw (add-zero _) w)
 
-add-count : tie.Need-add-count Inv-loop μ-loop
-add-count c =
-    let pre = c .before .before .before .before .before .before .pre in
-    omega (arith, c .before .before .before .before .loop .inv .1, pre .0 .states-most, pre .2)
-
 loop-again : tie.Need-loop-again Inv-loop μ-loop
 loop-again c =
     let s = c .before .before .before .before .before .before in
@@ -49,4 +44,5 @@ returns c =
     )
 
 pub refine-row-spec : {M : Type 1} → statement M
-refine-row-spec = tie.close (tie.spec Inv-loop μ-loop loop-holds (λ c κs. search needs) add-count (λ c. search needs) (λ c. search needs) loop-again returns)
+refine-row-spec =
+    tie.close (tie.spec Inv-loop μ-loop loop-holds (λ c κs. search needs) (λ c. search needs) (λ c. search needs) (λ c. search needs) loop-again returns)

@@ -13,20 +13,10 @@ Inv-loop square nexts n k p q area₀ at x₀ y₀ i₀ left₀ area x y i left 
 abbrev μ-loop : tie.MeasureT-loop
 μ-loop square nexts n k p q area₀ at x₀ y₀ i₀ left₀ area x y i left = left
 
-entry-at-requires : tie.Need-entry-at-requires Inv-loop μ-loop
-entry-at-requires c κs =
-    let s = c .before .before .pre in
-    (omega (arith, s .0 .states-most, s .2), omega (arith, s .0 .states-most, s .3))
-
 loop-holds : tie.Need-loop-holds Inv-loop μ-loop
 loop-holds c =
     let s = c .before .before .before .pre in
     walk-begins (s .2) (s .3) (c .entry-at .ensures .0) (s .4) (s .5)
-
-nearer-by-requires : tie.Need-nearer-by-requires Inv-loop μ-loop
-nearer-by-requires c κs =
-    let w = c .before .loop .inv in
-    (c .before .before .before .before .before .pre .0, w .first-in, w .second-in)
 
 cast-area : tie.Need-cast-area Inv-loop μ-loop
 cast-area c =
@@ -73,5 +63,5 @@ returns c =
 
 pub write-apart-spec : {M : Type 1} → statement M
 write-apart-spec =
-    tie.close (tie.spec Inv-loop μ-loop entry-at-requires loop-holds (λ c. search needs) nearer-by-requires cast-area (λ c. search needs) successor-requires
-    successor-requires-2 add-i (λ c. search needs) loop-again same-length returns)
+    tie.close (tie.spec Inv-loop μ-loop (λ c κs. search needs) loop-holds (λ c. search needs) (λ c κs. search needs) cast-area (λ c. search needs)
+    successor-requires successor-requires-2 add-i (λ c. search needs) loop-again same-length returns)

@@ -39,9 +39,6 @@ successor-requires c κs =
     let inv = c .before .before .before .loop .inv in
     (pre .0, inv .inside, walk-symbol inv (pre .1) (c .before .if1 .taken) (c .onward-by .ensures))
 
-add-i : tie.Need-add-i Inv-loop μ-loop
-add-i c = omega (arith, c .before .before .before .before .loop .inv .total, c .before .before .before .before .before .before .before .before .pre .3)
-
 loop-less : tie.Need-loop-less Inv-loop μ-loop
 loop-less c =
     omega (
@@ -56,9 +53,6 @@ loop-again c =
     walk-goes-on (c .before .before .before .before .loop .inv) (pre .1) (c .before .before .if1 .taken) (c .before .onward-by .ensures) (next-of-rows (pre .0))
     (c .successor .ensures .0)
 
-same-length : tie.Need-same-length Inv-loop μ-loop
-same-length c = c .before .before .loop .inv .size
-
 returns : tie.Need-returns Inv-loop μ-loop
 returns c =
     let w = c .before .before .loop .inv in
@@ -68,4 +62,4 @@ returns c =
 pub write-before-spec : {M : Type 1} → statement M
 write-before-spec =
     tie.close (tie.spec Inv-loop μ-loop (λ c. search needs) (λ c. search needs) loop-holds (λ c. search needs) (λ c. search needs) sub-left
-    (λ c κs. search needs) cast-area slice-write-area successor-requires add-i loop-less loop-again same-length returns)
+    (λ c κs. search needs) cast-area slice-write-area successor-requires (λ c. search needs) loop-less loop-again (λ c. search needs) returns)
