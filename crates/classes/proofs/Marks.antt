@@ -41,14 +41,17 @@ module _ (f old : ℕ → Bool) (q : ℕ) (o : (p : ℕ) → old p ≡ (ltb p q 
   join p t =
       ⊎-elim
       (λ s. and-both (ltb p (q + 1)) (f p) (lt-ltb p (q + 1) (omega (arith, ltb-true p q (and-left (ltb p q) (f p) s)))) (and-right (ltb p q) (f p) s))
-      (λ s. (let e = eqb-true p q (and-left (eqb p q) (f q) s) in and-both (ltb p (q + 1)) (f p) (lt-ltb p (q + 1) (omega (arith, e))) (ap f e ∙ and-right (eqb p q) (f q) s)))
+      (λ s. (let e = eqb-true p q (and-left (eqb p q) (f q) s) in
+      and-both (ltb p (q + 1)) (f p) (lt-ltb p (q + 1) (omega (arith, e))) (ap f e ∙ and-right (eqb p q) (f q) s)))
       (or-cases (ltb p q && f p) (eqb p q && f q) t)
 
   one-more : (p : ℕ) → ((ltb p q && f p) || (eqb p q && f q)) ≡ (ltb p (q + 1) && f p)
   one-more p = both-ways (join p) (split p)
 
-  pub marked-more : (limit : ℕ) (new : ℕ → Bool) → q < limit → f q ≡ true → ((p : ℕ) → new p ≡ (old p || (eqb p q && ltb q limit))) → (p : ℕ) → new p ≡ (ltb p (q + 1) && f p)
+  pub marked-more : (limit : ℕ) (new : ℕ → Bool) → q < limit → f q ≡ true → ((p : ℕ) → new p ≡ (old p || (eqb p q && ltb q limit))) → (p : ℕ)
+      → new p ≡ (ltb p (q + 1) && f p)
   marked-more limit new l t e p = e p ∙ rw (o p, lt-ltb q limit l, ← t) (one-more p)
 
   pub marked-same : f q ≡ false → (p : ℕ) → old p ≡ (ltb p (q + 1) && f p)
-  marked-same t p = o p ∙ sym (or-false (ltb p q && f p)) ∙ ap (λ (b : Bool). (ltb p q && f p) || b) (sym (and-false (eqb p q)) ∙ ap (λ (b : Bool). eqb p q && b) (sym t)) ∙ one-more p
+  marked-same t p = o p ∙ sym (or-false (ltb p q && f p))
+      ∙ ap (λ (b : Bool). (ltb p q && f p) || b) (sym (and-false (eqb p q)) ∙ ap (λ (b : Bool). eqb p q && b) (sym t)) ∙ one-more p

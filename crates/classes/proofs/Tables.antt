@@ -45,7 +45,8 @@ reaching-is {g} {f} {s} {r} c x e = record { at = λ p. e p ∙ both-ways (to p)
         ⊎-elim
         (λ i. (let h = sym (x .at p) ∙ i in
         let l = ltb-true p (g .states) (and-left (ltb p (g .states)) (f p) h) in
-        and-both (ltb p (g .states)) (leads g f p) (lt-ltb p (g .states) l) (leads-complete g f c p l (hits-here g f p (and-right (ltb p (g .states)) (f p) h)))))
+        and-both (ltb p (g .states)) (leads g f p) (lt-ltb p (g .states) l)
+        (leads-complete g f c p l (hits-here g f p (and-right (ltb p (g .states)) (f p) h)))))
         (λ i. (let l = and-left (ltb p (g .states)) (leads g (member s) p) i in
         and-both (ltb p (g .states)) (leads g f p) l (sym (same p (ltb-true p (g .states) l)) ∙ and-right (ltb p (g .states)) (leads g (member s) p) i)))
         (or-cases (member s p) (ltb p (g .states) && leads g (member s) p) t)
@@ -76,15 +77,16 @@ ugly-class {m = m} w q l =
     go (suc (suc zero)) e r t a f b = rw (sym b ∙ own 2 e) (sym (and-false (not t)))
     go (suc (suc (suc v))) e r t a f b = absurd (omega arith)
 
-module _ (k s : ℕ) (vs ts : List ℕ) {n : ℕ} {t f : StateSet} (et : Exactly n (leads (automatonOf n k ts) (hasMark vs 1)) t) (ef : Exactly n (leads (automatonOf n k ts) (hasMark vs 2)) f) where
+module _ {n k s : ℕ} {vs ts : List ℕ} (table : Table stateLimit n k s vs ts) {t f : StateSet} (et : Exactly n (leads (automatonOf n k ts) (hasMark vs 1)) t)
+    (ef : Exactly n (leads (automatonOf n k ts) (hasMark vs 2)) f) where
   pub class-by-is : (q : ℕ) → q < n → classBy vs t f q ≡ class (tableOf n k s vs ts) q
   unfolding class
   class-by-is q l = rw (exactly-in et q l, exactly-in ef q l)
 
-  pub area-is : length vs ≡ n → (area : List ℕ) → filled (classBy vs t f) area (length vs) ≡ filled (class (tableOf n k s vs ts)) area n
-  area-is l area = filled-same (classBy vs t f) (class (tableOf n k s vs ts)) area l class-by-is
+  pub area-is : (area : List ℕ) → filled (classBy vs t f) area (length vs) ≡ filled (class (tableOf n k s vs ts)) area n
+  area-is area = filled-same (classBy vs t f) (class (tableOf n k s vs ts)) area (table .marks-length) class-by-is
 
-  module _ (table : Table stateLimit n k s vs ts) {r : StateSet} (er : Exactly n (reachedFrom (automatonOf n k ts) s) r) where
+  module _ {r : StateSet} (er : Exactly n (reachedFrom (automatonOf n k ts) s) r) where
     reached-is : count stateLimit (member r) ≡ statesReached (tableOf n k s vs ts)
     unfolding statesReached
     reached-is =
@@ -92,7 +94,8 @@ module _ (k s : ℕ) (vs ts : List ℕ) {n : ℕ} {t f : StateSet} (et : Exactly
         ∙ count-same n (member r) (reached (tableOf n k s vs ts)) (exactly-in er)
 
     ugly-is : (q : ℕ) → q < n → uglyBy t f r q ≡ uglyReached (tableOf n k s vs ts) q
-    ugly-is q l = rw (exactly-in er q l, exactly-in et q l, exactly-in ef q l, ugly-class (table .well-formed) q l) (and-assoc (reachedFrom (automatonOf n k ts) s q) _ _)
+    ugly-is q l =
+        rw (exactly-in er q l, exactly-in et q l, exactly-in ef q l, ugly-class (table .well-formed) q l) (and-assoc (reachedFrom (automatonOf n k ts) s q) _ _)
 
     pub monitorability-is : monitorabilityBy vs t f r s ≡ monitorability (tableOf n k s vs ts)
     unfolding monitorability
@@ -103,12 +106,14 @@ module _ (k s : ℕ) (vs ts : List ℕ) {n : ℕ} {t f : StateSet} (et : Exactly
         ∙ any-same n (uglyBy t f r) (uglyReached (tableOf n k s vs ts)) ugly-is)
         (class-by-is s (table .well-formed .start-in))
 
-    pub figures-are : {a b : ℕ} → a ≡ monitorabilityBy vs t f r s → b ≡ count stateLimit (member r) → answered (a ∷ b ∷ []) ≡ answered (classifyFigures (tableOf n k s vs ts))
+    pub figures-are : {a b : ℕ} → a ≡ monitorabilityBy vs t f r s → b ≡ count stateLimit (member r)
+        → answered (a ∷ b ∷ []) ≡ answered (classifyFigures (tableOf n k s vs ts))
     figures-are i j = ap₂ (λ (x y : ℕ). answered (x ∷ y ∷ [])) (i ∙ monitorability-is) (j ∙ reached-is)
 
 -- ---- the monitorability by two differences of sets and a count
 
-module _ (vs : List ℕ) (t f r rest ugly : StateSet) (s : ℕ) (d : (q : ℕ) → member rest q ≡ (member r q && not (member t q))) (e : (q : ℕ) → member ugly q ≡ (member rest q && not (member f q)))
+module _ (vs : List ℕ) (t f r rest ugly : StateSet) (s : ℕ) (d : (q : ℕ) → member rest q ≡ (member r q && not (member t q)))
+    (e : (q : ℕ) → member ugly q ≡ (member rest q && not (member f q)))
     {a : ℕ} (c : a ≡ count stateLimit (member ugly)) where
   ugly-count : a ≡ count stateLimit (uglyBy t f r)
   ugly-count = c ∙ count-same stateLimit (member ugly) (uglyBy t f r) (λ q _. e q ∙ ap (λ (b : Bool). b && not (member f q)) (d q))

@@ -20,10 +20,10 @@ use Rattle.theory.proofs.Faults.{steps-good, steps-rise}
 use Rattle.theory.proofs.Witness.{none-harms, first-harms, first-least}
 use Rattle.pairs.specs.Square.{never}
 use Rattle.immunity.specs.Findings.{seriesFigures, witnessFigures, witnessTrace, roomQuestions}
-use Rattle.immunity.proofs.Search.{total-least, total-found, search-none}
-use Rattle.immunity.proofs.Made.{Searched}
+use Rattle.immunity.proofs.Search.{Searched, total-least, total-found, search-none}
 
-module _ {g : Automaton} {ends : ℕ → ℕ → Bool} {set : ℕ} {d costs v : List ℕ} (h : Searched g ends set d costs v) {start : ℕ} (start-in : start < g .states) where
+module _ {g : Automaton} {ends : ℕ → ℕ → Bool} {set : ℕ} {d costs v : List ℕ} (h : Searched g ends set d costs v) {start : ℕ}
+    (start-in : start < g .states) where
   abbrev pub first : Option Series
   first = firstHarmful g ends (steps set (g .symbols)) start
 
@@ -39,13 +39,13 @@ module _ {g : Automaton} {ends : ℕ → ℕ → Bool} {set : ℕ} {d costs v : 
     where
       go : (o : Option Series) → first ≡ o → (s : Series) × (first ≡ some s) × (length (sentTrace s) ≡ total)
       go none e =
-          let f = total-found set (h .closed) (h .squared) (h .costs-are) (h .relaxed) start start-in low in
+          let f = total-found h start start-in low in
           absurd (none-harms g ends (steps set (g .symbols)) (h .closed) (steps-good g set) start start-in e (f .0) (f .1))
       go (some s) e =
-          let f = total-found set (h .closed) (h .squared) (h .costs-are) (h .relaxed) start start-in low in
+          let f = total-found h start start-in low in
           let r = first-harms g ends (steps set (g .symbols)) (h .closed) (steps-good g set) start start-in (steps-rise set (g .symbols)) s e in
           let x = first-least g ends (steps set (g .symbols)) (h .closed) (steps-good g set) start start-in (steps-rise set (g .symbols)) r (f .0) (f .1) in
-          let y = total-least set (h .closed) (h .squared) (h .costs-are) (h .relaxed) start s start-in (r .harm) in
+          let y = total-least h start s start-in (r .harm) in
           let z = f .2 in
           (s, e, omega (arith, x, y, z))
 
@@ -54,7 +54,7 @@ module _ {g : Automaton} {ends : ℕ → ℕ → Bool} {set : ℕ} {d costs v : 
     answer = asks (roomQuestions first room) (witnessFigures read g start first)
 
     pub says-immune : g .states ≤ stateLimit → never ≤ total → answered [] ≡ answer
-    says-immune small e = rw (search-none set (h .closed) (h .squared) (h .costs-are) (h .relaxed) small start start-in e, le-leb 0 room zero-le)
+    says-immune small e = rw (search-none h small start start-in e, le-leb 0 room zero-le)
 
     pub says-no-room : total < never → room < total → refused 13 0 ≡ answer
     says-no-room low l =
@@ -62,16 +62,18 @@ module _ {g : Automaton} {ends : ℕ → ℕ → Bool} {set : ℕ} {d costs v : 
         let z = s .2 in
         rw (s .1, lt-leb (length (sentTrace (s .0))) room (omega (arith, z, l)))
 
-    pub says-vulnerable : {values : List ℕ} → total < never → total ≤ room → ((s : Series) → first ≡ some s → values ≡ seriesFigures read g start s) → answered values ≡ answer
+    pub says-vulnerable : {values : List ℕ} → total < never → total ≤ room → ((s : Series) → first ≡ some s → values ≡ seriesFigures read g start s)
+        → answered values ≡ answer
     says-vulnerable low l are =
         let s = search-some low in
         let z = s .2 in
         ap answered (are (s .0) (s .1)) ∙ sym (rw (s .1, le-leb (length (sentTrace (s .0))) room (omega (arith, z, l))))
 
   pub immune-keeps : (area : List ℕ) → g .states ≤ stateLimit → never ≤ total → area ≡ written (answered []) (witnessTrace first) area
-  immune-keeps area small e = rw (search-none set (h .closed) (h .squared) (h .costs-are) (h .relaxed) small start start-in e)
+  immune-keeps area small e = rw (search-none h small start start-in e)
 
-  pub witness-fills : (values area : List ℕ) {after : List ℕ} → total < never → total ≤ length area → ((s : Series) → first ≡ some s → after ≡ sets area 0 (sentTrace s)) → after ≡ written (answered values) (witnessTrace first) area
+  pub witness-fills : (values area : List ℕ) {after : List ℕ} → total < never → total ≤ length area
+      → ((s : Series) → first ≡ some s → after ≡ sets area 0 (sentTrace s)) → after ≡ written (answered values) (witnessTrace first) area
   witness-fills values area low l is =
       let s = search-some low in
       let z = s .2 in

@@ -1,7 +1,7 @@
 -- The columns of a card, one after the other; a card after its questions.
 use mathlib.Core.Path.{_≡_, refl, sym, ap, ap₂, _∙_}
-use mathlib.Core.List.{List, [], _∷_, _++_, append-nil}
-use Prim.Native.Nat.{ℕ, suc, _+_, _≤_, _<_}
+use mathlib.Core.List.{List, [], _∷_, _++_}
+use Prim.Native.Nat.{ℕ, _+_, _≤_, _<_}
 use native.Mathlib.Numerals.{add-one}
 use native.Mathlib.Omega.{arith}
 use lib.ListN.{length, take, set, replicate, length-set}
@@ -46,7 +46,8 @@ filled-more {answer} {rank} {columns} column h l e = record {
       ∙ ap (λ (i : ℕ). each i (λ c. answer c ∷ [])) (sym (add-one rank));
 }
 
-pub filled-all : {answer : ℕ → Answer} {rank : ℕ} {columns : List Column} → Filled answer rank columns → kinds ≤ rank → found columns ≡ each kinds (λ c. answer c ∷ [])
+pub filled-all : {answer : ℕ → Answer} {rank : ℕ} {columns : List Column} → Filled answer rank columns → kinds ≤ rank
+    → found columns ≡ each kinds (λ c. answer c ∷ [])
 filled-all {answer} {rank} {columns} h l =
     let e : rank ≡ kinds = omega (arith, l, h .upto) in
     ap found (sym (take-all rank columns (omega (arith, l, h .size)))) ∙ h .filled ∙ ap (λ (i : ℕ). each i (λ c. answer c ∷ [])) e

@@ -10,7 +10,7 @@ use lib.ListN.{length, getD, set}
 use lib.Seq.{sets, length-sets}
 use borrow.Author.Tests.{eqb-true}
 use Rattle.theory.specs.Lists.{find}
-use Rattle.theory.specs.Automaton.{Automaton, Closed, run}
+use Rattle.theory.specs.Automaton.{Automaton, run}
 use Rattle.theory.specs.Faults.{FaultStep, steps}
 use Rattle.theory.specs.Series.{Series, sentTrace, receivedTrace}
 use Rattle.theory.specs.Computed.{firstHarmful}
@@ -18,73 +18,49 @@ use Rattle.theory.proofs.Lists.{find-in, some-same}
 use Rattle.theory.proofs.Witness.{run-parts, sent-length}
 use Rattle.monitor.specs.declared.Shape.{Shape}
 use Rattle.monitor.proofs.Rows.{next-of-rows}
-use Rattle.pairs.specs.Square.{never, entry, Squared, differing, path}
+use Rattle.pairs.specs.Square.{never, entry, differing, path}
 use Rattle.pairs.proofs.Path.{path-length}
 use Rattle.faults.specs.declared.Symbols.{Symbols}
 use Rattle.faults.specs.declared.Fault.{Fault}
 use Rattle.faults.specs.Kinds.{bitOf}
 use Rattle.faults.specs.Steps.{stepFor, Inside, Ranged, costOf, costing, Costs}
 use Rattle.faults.proofs.AtMostTwo.{count-is}
-use Rattle.totals.specs.Totals.{Relaxed, approach}
+use Rattle.totals.specs.Totals.{Relaxed, wayToFault}
 use Rattle.immunity.specs.Findings.{seriesFigures}
 use Rattle.immunity.specs.Search.{automatonIn, Posed, Ready}
-use Rattle.immunity.proofs.Search.{search-finds, cost-sum}
+use Rattle.immunity.proofs.Search.{Searched, search-finds, cost-sum}
 
 pub sets-append : (l : List ℕ) (i : ℕ) (xs ys : List ℕ) → sets (sets l i xs) (i + length xs) ys ≡ sets l i (xs ++ ys)
 sets-append l i [] ys = ap (λ (j : ℕ). sets l j ys) (add-zero i)
-sets-append l i (x ∷ xs) ys = ap (λ (j : ℕ). sets (sets (set l i x) (suc i) xs) j ys) (add-suc i (length xs) ∙ sym (suc-add i (length xs))) ∙ sets-append (set l i x) (suc i) xs ys
+sets-append l i (x ∷ xs) ys =
+    ap (λ (j : ℕ). sets (sets (set l i x) (suc i) xs) j ys) (add-suc i (length xs) ∙ sym (suc-add i (length xs))) ∙ sets-append (set l i x) (suc i) xs ys
 
 pub inside-wider : {k m : ℕ} {s : Symbols} → Inside k s → k ≤ m → Inside m s
 inside-wider i l = record { count-most = i .count-most; first-in = omega (arith, i .first-in); second-in = omega (arith, i .second-in) }
 
--- what a search has made: the square, the costs and the totals
-pub record Searched (g : Automaton) (ends : ℕ → ℕ → Bool) (set : ℕ) (d costs v : List ℕ) : Type 0 where
-  pub closed : Closed g
-  pub squared : Squared g ends d
-  pub costs-are : Costs g d (steps set (g .symbols)) (g .states) costs
-  pub relaxed : Relaxed g costs v
+pub searched : (set : ℕ) {t : Shape} {outs d costs v ts : List ℕ} → Posed t outs d ts
+    → Costs (automatonIn t ts) d (steps set (t .symbols)) (t .states) costs → Relaxed (automatonIn t ts) costs v
+    → Searched (automatonIn t ts) (differing outs) set d costs v
+searched set p c r = record { closed = next-of-rows (p .rows); squared = p .squared; costs-are = c; relaxed = r }
+
+pub search-ready : {t : Shape} {set : ℕ} {outs d costs v ts : List ℕ} {room : ℕ} → Ready t set outs d costs v ts room
+    → Searched (automatonIn t ts) (differing outs) set d costs v
+search-ready {set = set} r = searched set (r .posed) (r .costs-are) (r .relaxed)
 
 -- `count` symbols lead from the start to `state`, where the fault is the first that costs what the state does
 pub record Chosen (g : Automaton) (set : ℕ) (d costs v : List ℕ) (start state count : ℕ) (fault : Fault) : Type 0 where
   pub start-in : start < g .states
   pub low : getD v start 0 < never
-  pub is-count : count ≡ length (approach g v costs (getD v start 0) start)
-  pub is-state : state ≡ run g start (approach g v costs (getD v start 0) start)
-  pub state-in : state < g .states
+  pub is-count : count ≡ length (wayToFault g v costs start)
+  pub is-state : state ≡ run g start (wayToFault g v costs start)
   pub is-cost : count + getD costs state 0 ≡ getD v start 0
   pub picked : find (costing g d state (getD costs state 0)) (steps set (g .symbols)) ≡ some (stepFor fault)
   pub ranged : Ranged (g .symbols) fault
 
-pub searched : (set : ℕ) {t : Shape} {outs d costs v ts : List ℕ} → Posed t outs d ts → Costs (automatonIn t ts) d (steps set (t .symbols)) (t .states) costs
-    → Relaxed (automatonIn t ts) costs v → Searched (automatonIn t ts) (differing outs) set d costs v
-searched set p c r = record { closed = next-of-rows (p .rows); squared = p .squared; costs-are = c; relaxed = r }
-
-module _ {t : Shape} {set : ℕ} {outs d costs v ts : List ℕ} {room : ℕ} (r : Ready t set outs d costs v ts room) where
-  pub search-ready : Searched (automatonIn t ts) (differing outs) set d costs v
-  search-ready = searched set (r .posed) (r .costs-are) (r .relaxed)
-
-  abbrev before : List ℕ
-  before = approach (automatonIn t ts) v costs (getD v (t .start) 0) (t .start)
-
-  -- by what `write_before` and `fault_with` answer
-  pub chosen : {state count : ℕ} {fault : Fault}
-      → (count ≡ length before) × ((state ≡ run (automatonIn t ts) (t .start) before) × (state < t .states)) × (count + getD costs state 0 ≡ getD v (t .start) 0)
-      → (find (costing (automatonIn t ts) d state (getD costs state 0)) (steps set (t .symbols)) ≡ some (stepFor fault)) × Ranged (t .symbols) fault
-      → Chosen (automatonIn t ts) set d costs v (t .start) state count fault
-  chosen w f = record {
-    start-in = r .posed .start-in;
-    low = r .some;
-    is-count = w .0;
-    is-state = w .1 .0;
-    state-in = w .1 .1;
-    is-cost = w .2;
-    picked = f .0;
-    ranged = f .1;
-  }
-
-module _ {g : Automaton} {ends : ℕ → ℕ → Bool} {set : ℕ} {d costs v : List ℕ} {start state count : ℕ} {fault : Fault} (h : Searched g ends set d costs v) (k : Chosen g set d costs v start state count fault) where
+module _ {g : Automaton} {ends : ℕ → ℕ → Bool} {set : ℕ} {d costs v : List ℕ} {start state count : ℕ} {fault : Fault} (h : Searched g ends set d costs v)
+    (k : Chosen g set d costs v start state count fault) where
   abbrev way : List ℕ
-  way = approach g v costs (getD v start 0) start
+  way = wayToFault g v costs start
 
   abbrev step : FaultStep
   step = stepFor fault
@@ -100,7 +76,8 @@ module _ {g : Automaton} {ends : ℕ → ℕ → Bool} {set : ℕ} {d costs v : 
   made-cost : length (step .sent) + apart ≡ getD costs state 0
   made-cost =
       let f = find-in (costing g d state (getD costs state 0)) (steps set (g .symbols)) (k .picked) in
-      cost-sum (length (step .sent)) apart (getD costs state 0) (eqb-true (costOf g d state step) (getD costs state 0) (f .1)) (omega (arith, k .is-cost, k .low))
+      cost-sum (length (step .sent)) apart (getD costs state 0) (eqb-true (costOf g d state step) (getD costs state 0) (f .1))
+      (omega (arith, k .is-cost, k .low))
 
   made-sum : count + (length (step .sent) + apart) ≡ getD v start 0
   made-sum = (let x = made-cost in omega (arith, x, k .is-cost))
@@ -130,16 +107,25 @@ module _ {g : Automaton} {ends : ℕ → ℕ → Bool} {set : ℕ} {d costs v : 
 
   made-first : firstHarmful g ends (steps set (g .symbols)) start ≡ some made
   made-first =
-      subst (λ (q : ℕ). find (costing g d q (getD costs q 0)) (steps set (g .symbols)) ≡ some step → firstHarmful g ends (steps set (g .symbols)) start ≡ some (record { before = way; fault = step; after = path g d (entry d (run g q (step .sent)) (run g q (step .received))) (run g q (step .sent)) (run g q (step .received)) })) (sym (k .is-state))
-      (search-finds set (h .closed) (h .squared) (h .costs-are) (h .relaxed) start step (k .start-in) (k .low)) (k .picked)
+      subst (λ (q : ℕ). find (costing g d q (getD costs q 0)) (steps set (g .symbols)) ≡ some step
+      → firstHarmful g ends (steps set (g .symbols)) start ≡ some
+      (record {
+        before = way;
+        fault = step;
+        after = path g d (entry d (run g q (step .sent)) (run g q (step .received))) (run g q (step .sent)) (run g q (step .received));
+      }))
+      (sym (k .is-state))
+      (search-finds h start step (k .start-in) (k .low)) (k .picked)
 
   -- the first series is the one made
   pub made-is : {s : Series} → firstHarmful g ends (steps set (g .symbols)) start ≡ some s → made ≡ s
   made-is e = some-same (sym made-first ∙ e)
 
   -- the three parts written one after the other
-  pub made-written : {s : Series} (area : List ℕ) {one two three : List ℕ} {p q : ℕ} → firstHarmful g ends (steps set (g .symbols)) start ≡ some s → one ≡ sets area 0 way → two ≡ sets one count (step .sent)
-      → p ≡ run g state (step .sent) → q ≡ run g state (step .received) → three ≡ sets two (count + fault .sent .count) (path g d (entry d p q) p q) → three ≡ sets area 0 (sentTrace s)
+  pub made-written : {s : Series} (area : List ℕ) {one two three : List ℕ} {p q : ℕ} → firstHarmful g ends (steps set (g .symbols)) start ≡ some s
+      → one ≡ sets area 0 way → two ≡ sets one count (step .sent)
+      → p ≡ run g state (step .sent) → q ≡ run g state (step .received) → three ≡ sets two (count + fault .sent .count) (path g d (entry d p q) p q)
+      → three ≡ sets area 0 (sentTrace s)
   made-written {s} area {two = two} {p = p} {q = q} e h₁ h₂ ep eq h₃ =
       h₃
       ∙ ap (λ (j : ℕ). sets two (count + j) (path g d (entry d p q) p q)) covers
@@ -153,12 +139,14 @@ module _ {g : Automaton} {ends : ℕ → ℕ → Bool} {set : ℕ} {d costs v : 
   pub made-figures : {s : Series} (outs : List ℕ) {x y p q : ℕ} → firstHarmful g ends (steps set (g .symbols)) start ≡ some s
       → p ≡ run g state (step .sent) → q ≡ run g state (step .received)
       → x ≡ run g p (path g d (entry d p q) p q) → y ≡ run g q (path g d (entry d p q) p q)
-      → _≡_ {A = List ℕ} (getD v start 0 ∷ count ∷ bitOf (fault .kind) ∷ fault .replacement ∷ getD outs x 0 ∷ getD outs y 0 ∷ []) (seriesFigures (λ r. getD outs r 0) g start s)
+      → _≡_ {A = List ℕ} (getD v start 0 ∷ count ∷ bitOf (fault .kind) ∷ fault .replacement ∷ getD outs x 0 ∷ getD outs y 0 ∷ [])
+      (seriesFigures (λ r. getD outs r 0) g start s)
   made-figures {s} outs e ep eq ex ey =
       rw (distance, k .is-count, ex, ey, ep, eq, sent, received) (ap (seriesFigures (λ r. getD outs r 0) g start) (made-is e))
     where
       distance : getD v start 0 ≡ length (sentTrace made)
-      distance = (let x = made-sum in let y = sent-length made in let z = path-length g d apart (run g state (step .sent)) (run g state (step .received)) in omega (arith, x, y, z, k .is-count))
+      distance = (let x = made-sum in let y = sent-length made in let z = path-length g d apart (run g state (step .sent)) (run g state (step .received)) in
+          omega (arith, x, y, z, k .is-count))
 
       sent : run g (run g state (step .sent)) (made .after) ≡ run g start (sentTrace made)
       sent = ap (λ (r : ℕ). run g (run g r (step .sent)) (made .after)) (k .is-state) ∙ sym (run-parts g start way (step .sent) (made .after))

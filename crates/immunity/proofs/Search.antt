@@ -26,7 +26,7 @@ use Rattle.theory.proofs.Witness.{Harm, harm-tells, tells-harm, sent-length, ne
 use Rattle.pairs.specs.Square.{never, entry, Squared, path}
 use Rattle.pairs.proofs.Path.{noted-least, apartBy, path-first}
 use Rattle.faults.specs.Steps.{plus, costOf, Costs}
-use Rattle.totals.specs.Totals.{least, leastAfter, Attained, Relaxed, onward, approach, Leading}
+use Rattle.totals.specs.Totals.{leastAfter, Attained, Relaxed, onward, approach, Leading}
 use Rattle.totals.proofs.Least.{least-le}
 
 plus-at-most : (l e : ℕ) → plus l e ≤ l + e
@@ -36,8 +36,14 @@ plus-at-most l e = omega arith
 pub cost-sum : (l e c : ℕ) → plus l e ≡ c → c < never → l + e ≡ c
 cost-sum l e c h s = omega arith
 
-module _ {g : Automaton} {ends : ℕ → ℕ → Bool} {d costs v : List ℕ} (set : ℕ) (c : Closed g) (sq : Squared g ends d)
-    (cs : Costs g d (steps set (g .symbols)) (g .states) costs) (st : Relaxed g costs v) where
+-- what a search has made: the square, the costs and the totals
+pub record Searched (g : Automaton) (ends : ℕ → ℕ → Bool) (set : ℕ) (d costs v : List ℕ) : Type 0 where
+  pub closed : Closed g
+  pub squared : Squared g ends d
+  pub costs-are : Costs g d (steps set (g .symbols)) (g .states) costs
+  pub relaxed : Relaxed g costs v
+
+module _ {g : Automaton} {ends : ℕ → ℕ → Bool} {set : ℕ} {d costs v : List ℕ} (seen : Searched g ends set d costs v) where
   abbrev faults : List FaultStep
   faults = steps set (g .symbols)
 
@@ -56,7 +62,7 @@ module _ {g : Automaton} {ends : ℕ → ℕ → Bool} {d costs v : List ℕ} (s
   began = record { above = λ p _. le-refl (cost p); reached = λ p _ _. ([], tt, omega arith) }
 
   attained : Attained g costs v
-  attained = st .attained costs began
+  attained = seen .relaxed .attained costs began
 
   -- ---- costs
 
@@ -65,27 +71,29 @@ module _ {g : Automaton} {ends : ℕ → ℕ → Bool} {d costs v : List ℕ} (s
   gap p s = entry d (run g p (s .sent)) (run g p (s .received))
 
   sent-in : (p : ℕ) (s : FaultStep) → p < g .states → In s faults → run g p (s .sent) < g .states
-  sent-in p s lp i = run-in c p (s .sent) lp (good s i .sent-trace)
+  sent-in p s lp i = run-in (seen .closed) p (s .sent) lp (good s i .sent-trace)
 
   received-in : (p : ℕ) (s : FaultStep) → p < g .states → In s faults → run g p (s .received) < g .states
-  received-in p s lp i = run-in c p (s .received) lp (good s i .received-trace)
+  received-in p s lp i = run-in (seen .closed) p (s .received) lp (good s i .received-trace)
 
   -- a fault step and what tells its two states apart are together no shorter than the step's cost, nor than the state's
-  step-least : (p : ℕ) (s : FaultStep) (w : List ℕ) → p < g .states → In s faults → Tells g ends (run g p (s .sent)) (run g p (s .received)) w → costOf g d p s ≤ length (s .sent) + length w
+  step-least : (p : ℕ) (s : FaultStep) (w : List ℕ) → p < g .states → In s faults → Tells g ends (run g p (s .sent)) (run g p (s .received)) w
+      → costOf g d p s ≤ length (s .sent) + length w
   step-least p s w lp i t =
-      let e = noted-least (sq .noted (run g p (s .sent)) (run g p (s .received)) (sent-in p s lp i) (received-in p s lp i)) w t in
+      let e = noted-least (seen .squared .noted (run g p (s .sent)) (run g p (s .received)) (sent-in p s lp i) (received-in p s lp i)) w t in
       let u = plus-at-most (length (s .sent)) (gap p s) in
       omega (arith, e, u)
 
-  cost-least : (p : ℕ) (s : FaultStep) (w : List ℕ) → p < g .states → In s faults → Tells g ends (run g p (s .sent)) (run g p (s .received)) w → cost p ≤ length (s .sent) + length w
-  cost-least p s w lp i t = (let a = step-least p s w lp i t in let b = cs .each p lp .least s i in omega (arith, a, b))
+  cost-least : (p : ℕ) (s : FaultStep) (w : List ℕ) → p < g .states → In s faults → Tells g ends (run g p (s .sent)) (run g p (s .received)) w
+      → cost p ≤ length (s .sent) + length w
+  cost-least p s w lp i t = (let a = step-least p s w lp i t in let b = seen .costs-are .each p lp .least s i in omega (arith, a, b))
 
   -- ---- totals
 
   -- a symbol takes at most one off
   total-after : (p a : ℕ) → p < g .states → a < g .symbols → total p ≤ suc (total (g .next p a))
   total-after p a lp la =
-      let q = ltb-false (leastAfter g v p + 1) (total p) (st .quiet p lp) in
+      let q = ltb-false (leastAfter g v p + 1) (total p) (seen .relaxed .quiet p lp) in
       let r = least-le (g .symbols) (λ b. total (g .next p b)) a la in
       omega (arith, q, r)
 
@@ -94,13 +102,13 @@ module _ {g : Automaton} {ends : ℕ → ℕ → Bool} {d costs v : List ℕ} (s
   total-way [] p lp t = (let a = attained .above p lp in omega (arith, a))
   total-way (a ∷ w) p lp t =
       let x = total-after p a lp (t .0) in
-      let y = total-way w (g .next p a) (c .next-in p a lp (t .0)) (t .1) in
+      let y = total-way w (g .next p a) (seen .closed .next-in p a lp (t .0)) (t .1) in
       omega (arith, x, y)
 
   -- no harmful series is shorter than the total
   pub total-least : (p : ℕ) (s : Series) → p < g .states → Harm g ends faults p s → total p ≤ length (sentTrace s)
   total-least p s lp h =
-      let q-in = run-in c p (s .before) lp (h .valid .before-trace) in
+      let q-in = run-in (seen .closed) p (s .before) lp (h .valid .before-trace) in
       let x = total-way (s .before) p lp (h .valid .before-trace) in
       let y = cost-least (run g p (s .before)) (s .fault) (s .after) q-in (h .valid .known) (harm-tells g ends faults p s h) in
       let z = sent-length s in
@@ -111,12 +119,13 @@ module _ {g : Automaton} {ends : ℕ → ℕ → Bool} {d costs v : List ℕ} (s
   total-found p lp l =
       let r = attained .reached p lp l in
       let q = run g p (r .0) in
-      let q-in : q < g .states = run-in c p (r .0) lp (r .1) in
+      let q-in : q < g .states = run-in (seen .closed) p (r .0) lp (r .1) in
       let e : total p ≡ length (r .0) + cost q = r .2 in
       let small : cost q < never = omega arith in
-      let f = cs .each q q-in .attained small in
+      let f = seen .costs-are .each q q-in .attained small in
       let sum = cost-sum (length (f .0 .sent)) (gap q (f .0)) (cost q) (f .2) small in
-      let w = sq .noted (run g q (f .0 .sent)) (run g q (f .0 .received)) (sent-in q (f .0) q-in (f .1)) (received-in q (f .0) q-in (f .1)) .found (omega (arith, sum, small)) in
+      let w = seen .squared .noted (run g q (f .0 .sent)) (run g q (f .0 .received)) (sent-in q (f .0) q-in (f .1)) (received-in q (f .0) q-in (f .1)) .found
+      (omega (arith, sum, small)) in
       let s : Series = record { before = r .0; fault = f .0; after = w .word } in
       let long = w .long in
       let z = sent-length s in
@@ -125,7 +134,7 @@ module _ {g : Automaton} {ends : ℕ → ℕ → Bool} {d costs v : List ℕ} (s
   pub total-within : (p : ℕ) → p < g .states → total p < never → total p ≤ horizon (g .states)
   total-within p lp l =
       let f = total-found p lp l in
-      let t = near g ends faults c good p lp (f .0) (f .1) in
+      let t = near g ends faults (seen .closed) good p lp (f .0) (f .1) in
       let x = total-least p (t .0) lp (t .1) in
       omega (arith, x, t .2)
 
@@ -135,13 +144,13 @@ module _ {g : Automaton} {ends : ℕ → ℕ → Bool} {d costs v : List ℕ} (s
 
     pub total-none : (p : ℕ) → p < g .states → never ≤ total p → (s : Series) → Harm g ends faults p s → ⊥
     total-none p lp e s h =
-        let t = near g ends faults c good p lp s h in
+        let t = near g ends faults (seen .closed) good p lp s h in
         let x = total-least p (t .0) lp (t .1) in
         let y = near-never in
         omega (arith, x, y, t .2)
 
     pub search-none : (p : ℕ) → p < g .states → never ≤ total p → firstHarmful g ends faults p ≡ none
-    search-none p lp e = found-none g ends faults c good p lp (total-none p lp e)
+    search-none p lp e = found-none g ends faults (seen .closed) good p lp (total-none p lp e)
 
   -- ---- the way to the fault
 
@@ -149,18 +158,20 @@ module _ {g : Automaton} {ends : ℕ → ℕ → Bool} {d costs v : List ℕ} (s
   unfolding run Trace
   search-leads = record { leads = λ p l lp e s. (let r = attained .reached p lp (omega arith) in go p l lp e s (r .0) (r .1) (r .2)) }
     where
-      go : (p l : ℕ) → p < g .states → total p ≡ l → l < never → (w : List ℕ) → Trace g w → total p ≡ length w + cost (run g p w) → (cost p ≡ l) ⊎ ((m : ℕ) × (l ≡ suc m) × (onward g v m p < g .symbols))
+      go : (p l : ℕ) → p < g .states → total p ≡ l → l < never → (w : List ℕ) → Trace g w → total p ≡ length w + cost (run g p w)
+          → (cost p ≡ l) ⊎ ((m : ℕ) × (l ≡ suc m) × (onward g v m p < g .symbols))
       go p l lp e s [] t h = inl (omega arith)
       go p l lp e s (a ∷ w) t h =
           let m : ℕ = length w + cost (run g (g .next p a) w) in
           let x = total-after p a lp (t .0) in
-          let y = total-way w (g .next p a) (c .next-in p a lp (t .0)) (t .1) in
+          let y = total-way w (g .next p a) (seen .closed .next-in p a lp (t .0)) (t .1) in
           let is : total (g .next p a) ≡ m = omega (arith, x, y, h) in
           inr (
             m,
             omega (arith, h),
             ⊎-elim (λ le. le)
-                (λ ge. absurd (clash (eq-eqb (total (g .next p a)) m is) (first-below (λ b. eqb (total (g .next p b)) m) 0 (g .symbols) a zero-le (omega (arith, ge, t .0)))))
+                (λ ge. absurd (clash (eq-eqb (total (g .next p a)) m is)
+                (first-below (λ b. eqb (total (g .next p b)) m) 0 (g .symbols) a zero-le (omega (arith, ge, t .0)))))
                 (lt-or-le (onward g v m p) (g .symbols)),
           )
 
@@ -171,15 +182,20 @@ module _ {g : Automaton} {ends : ℕ → ℕ → Bool} {d costs v : List ℕ} (s
   madeOf l p f = record {
     before = approach g v costs l p;
     fault = f;
-    after = path g d (gap (run g p (approach g v costs l p)) f) (run g (run g p (approach g v costs l p)) (f .sent)) (run g (run g p (approach g v costs l p)) (f .received));
+    after = path g d (gap (run g p (approach g v costs l p)) f) (run g (run g p (approach g v costs l p)) (f .sent))
+        (run g (run g p (approach g v costs l p)) (f .received));
   }
 
   -- a series that begins with a fault step costs at least what the step does
-  struck-cost : (p l : ℕ) (s : FaultStep) (u : Series) → p < g .states → In s faults → In u (struck (g .symbols) l s) → harmful g ends p u ≡ true → costOf g d p s ≤ l
+  struck-cost : (p l : ℕ) (s : FaultStep) (u : Series) → p < g .states → In s faults → In u (struck (g .symbols) l s) → harmful g ends p u ≡ true
+      → costOf g d p s ≤ l
   unfolding run Trace
   struck-cost p l s u lp i j h =
       let r = struck-is g l s u j in
-      let harm : Harm g ends faults p (begin s (r .rest)) = record { valid = record { before-trace = tt; known = i; after-trace = r .trace }; harms = subst (λ (z : Series). harmful g ends p z ≡ true) (r .is) h } in
+      let harm : Harm g ends faults p (begin s (r .rest)) = record {
+        valid = record { before-trace = tt; known = i; after-trace = r .trace };
+        harms = subst (λ (z : Series). harmful g ends p z ≡ true) (r .is) h;
+      } in
       let x = step-least p s (r .rest) lp i (harm-tells g ends faults p (begin s (r .rest)) harm) in
       let y = r .long in
       omega (arith, x, y)
@@ -190,10 +206,12 @@ module _ {g : Automaton} {ends : ℕ → ℕ → Bool} {d costs v : List ℕ} (s
   struck-first p l f lp i e s =
       let sum : length (f .sent) + gap p f ≡ l = cost-sum (length (f .sent)) (gap p f) l e s in
       let rest : l - length (f .sent) ≡ gap p f = omega arith in
-      let here = path-first c sq (gap p f) (run g p (f .sent)) (run g p (f .received)) (sent-in p f lp i) (received-in p f lp i) refl (omega (arith, sum, s)) in
+      let here = path-first (seen .closed) (seen .squared) (gap p f) (run g p (f .sent)) (run g p (f .received)) (sent-in p f lp i) (received-in p f lp i) refl
+      (omega (arith, sum, s)) in
       rw (le-leb (length (f .sent)) l (omega (arith, sum)), rest)
       (find-map (harmful g ends p) (begin f) (words (g .symbols) (gap p f))
-      (find-same (λ w. harmful g ends p (begin f w)) (apartBy g ends (run g p (f .sent)) (run g p (f .received))) (words (g .symbols) (gap p f)) (λ w _. same w) ∙ here))
+      (find-same (λ w. harmful g ends p (begin f w)) (apartBy g ends (run g p (f .sent)) (run g p (f .received))) (words (g .symbols) (gap p f))
+      (λ w _. same w) ∙ here))
     where
       same : (w : List ℕ) → harmful g ends p (begin f w) ≡ apartBy g ends (run g p (f .sent)) (run g p (f .received)) w
       same w = rw (run-append g p (f .sent) w, run-append g p (f .received) w)
@@ -206,7 +224,7 @@ module _ {g : Automaton} {ends : ℕ → ℕ → Bool} {d costs v : List ℕ} (s
       find-flatMap (harmful g ends p) (λ t. eqb (costOf g d p t) (cost p)) (struck (g .symbols) l) faults
       (λ t i no-hit. find-none (harmful g ends p) (struck (g .symbols) l t) (λ u j. not-clash (λ h.
       let x = struck-cost p l t u lp i j h in
-      let y = cs .each p lp .least t i in
+      let y = seen .costs-are .each p lp .least t i in
       let z : costOf g d p t ≡ cost p = omega (arith, x, y) in
       clash (eq-eqb (costOf g d p t) (cost p) z) no-hit)))
       chosen
@@ -218,7 +236,7 @@ module _ {g : Automaton} {ends : ℕ → ℕ → Bool} {d costs v : List ℕ} (s
       find-flatMap-none (harmful g ends p) (struck (g .symbols) l) faults
       (λ t i. find-none (harmful g ends p) (struck (g .symbols) l t) (λ u j. not-clash (λ h.
       let x = struck-cost p l t u lp i j h in
-      let y = cs .each p lp .least t i in
+      let y = seen .costs-are .each p lp .least t i in
       omega (arith, x, y, less))))
 
   pub first-made : (l p : ℕ) (f : FaultStep) → p < g .states → total p ≡ l → l < never
@@ -245,17 +263,23 @@ module _ {g : Automaton} {ends : ℕ → ℕ → Bool} {d costs v : List ℕ} (s
           → find (λ s. eqb (costOf g d (run g q (approach g v costs l q)) s) (cost (run g q (approach g v costs l q)))) faults ≡ some h
           → find (harmful g ends q) (series faults (g .symbols) l) ≡ some (madeOf l q h))
           → find (λ s. eqb (costOf g d (run g p (way b)) s) (cost (run g p (way b)))) faults ≡ some f
-          → find (harmful g ends p) (flatMap (struck (g .symbols) (suc l)) faults ++ each (g .symbols) (λ b. map (plain b) (series faults (g .symbols) l))) ≡ some (made (way b))
-      go true h rest chosen = find-here (harmful g ends p) (flatMap (struck (g .symbols) (suc l)) faults) (each (g .symbols) (λ b. map (plain b) (series faults (g .symbols) l))) (at-once p (suc l) f lp (eqb-true (cost p) (suc l) h) s chosen)
+          → find (harmful g ends p)
+          (flatMap (struck (g .symbols) (suc l)) faults ++ each (g .symbols) (λ b. map (plain b) (series faults (g .symbols) l))) ≡ some (made (way b))
+      go true h rest chosen = find-here (harmful g ends p) (flatMap (struck (g .symbols) (suc l)) faults)
+          (each (g .symbols) (λ b. map (plain b) (series faults (g .symbols) l))) (at-once p (suc l) f lp (eqb-true (cost p) (suc l) h) s chosen)
       go false h rest chosen =
           find-later (harmful g ends p) (flatMap (struck (g .symbols) (suc l)) faults) (each (g .symbols) (λ b. map (plain b) (series faults (g .symbols) l)))
-          (not-at-once p (suc l) lp (let x = attained .above p lp in let y = eqb-false (cost p) (suc l) h in ⊎-elim (λ k. k) (λ k. absurd (y (omega (arith, x, k)))) (lt-or-le (suc l) (cost p))))
+          (not-at-once p (suc l) lp (let x = attained .above p lp in let y = eqb-false (cost p) (suc l) h in
+          ⊎-elim (λ k. k) (λ k. absurd (y (omega (arith, x, k)))) (lt-or-le (suc l) (cost p))))
           ∙ find-each (harmful g ends p) (g .symbols) (λ b. map (plain b) (series faults (g .symbols) l)) a a-in
           (λ j less. find-map-none (harmful g ends p) (plain j) (series faults (g .symbols) l) (lower j less))
-          (find-map (harmful g ends p) (plain a) (series faults (g .symbols) l) (rest (g .next p a) f (c .next-in p a lp a-in) a-total (omega arith) chosen))
+          (find-map (harmful g ends p) (plain a) (series faults (g .symbols) l)
+          (rest (g .next p a) f (seen .closed .next-in p a lp a-in) a-total (omega arith) chosen))
         where
           a-in : a < g .symbols
-          a-in = ⊎-elim (λ k. absurd (eqb-false (cost p) (suc l) h k)) (λ r. (let z : l ≡ r .0 = omega (arith, r .1) in subst (λ (x : ℕ). onward g v x p < g .symbols) (sym z) (r .2))) (search-leads .leads p (suc l) lp e s)
+          a-in = ⊎-elim (λ k. absurd (eqb-false (cost p) (suc l) h k))
+              (λ r. (let z : l ≡ r .0 = omega (arith, r .1) in subst (λ (x : ℕ). onward g v x p < g .symbols) (sym z) (r .2)))
+              (search-leads .leads p (suc l) lp e s)
 
           a-total : total (g .next p a) ≡ l
           a-total = eqb-true (total (g .next p a)) l (first-here (λ b. eqb (total (g .next p b)) l) 0 (g .symbols) (omega (arith, a-in)))
@@ -266,7 +290,7 @@ module _ {g : Automaton} {ends : ℕ → ℕ → Bool} {d costs v : List ℕ} (s
               (λ u i. not-clash (λ t.
               let r = series-in g faults l u i in
               let j-in : j < g .symbols = omega (arith, less, a-in) in
-              let x = total-least (g .next p j) u (c .next-in p j lp j-in) (record { valid = r .valid; harms = t }) in
+              let x = total-least (g .next p j) u (seen .closed .next-in p j lp j-in) (record { valid = r .valid; harms = t }) in
               let y = total-after p j lp j-in in
               let w = r .long in
               let z : total (g .next p j) ≡ l = omega (arith, x, y, w, e) in
@@ -277,4 +301,5 @@ module _ {g : Automaton} {ends : ℕ → ℕ → Bool} {d costs v : List ℕ} (s
       → find (λ s. eqb (costOf g d (run g p (approach g v costs (total p) p)) s) (cost (run g p (approach g v costs (total p) p)))) faults ≡ some f
       → firstHarmful g ends faults p ≡ some (madeOf (total p) p f)
   search-finds p f lp s chosen =
-      found-first g ends faults c good p lp (total p) (madeOf (total p) p f) (total-within p lp s) (λ t h. total-least p t lp h) (first-made (total p) p f lp refl s chosen)
+      found-first g ends faults (seen .closed) good p lp (total p) (madeOf (total p) p f) (total-within p lp s) (λ t h. total-least p t lp h)
+      (first-made (total p) p f lp refl s chosen)

@@ -3,7 +3,6 @@ use mathlib.Core.Path.{_≡_, refl, sym, ap, _∙_}
 use mathlib.Core.List.{List, _++_}
 use mathlib.Core.Option.{Option, none, some}
 use Prim.Native.Nat.{ℕ, _≤_, _<_}
-use native.Mathlib.Omega.{arith}
 use lib.Bits.{bitOr}
 use lib.ListN.{length, getD, take}
 use lib.Seq.{getD-take, take-at}
@@ -53,7 +52,8 @@ module _ {limit n k start : ℕ} {vs ts : List ℕ} (t : Table limit n k start v
   figures-same : witnessFigures (λ q. getD outs q 0) (automatonOf n k ts) start (firstWitness m d set) ≡ tableFigures m d set
   figures-same = go (firstWitness m d set) refl
     where
-      go : (o : Option Series) → firstWitness m d set ≡ o → witnessFigures (λ q. getD outs q 0) (automatonOf n k ts) start o ≡ witnessFigures (reading m d) (automatonOf n k ts) start o
+      go : (o : Option Series) → firstWitness m d set ≡ o
+          → witnessFigures (λ q. getD outs q 0) (automatonOf n k ts) start o ≡ witnessFigures (reading m d) (automatonOf n k ts) start o
       go none e = refl
       go (some s) e =
           let w = t .well-formed in
@@ -61,18 +61,22 @@ module _ {limit n k start : ℕ} {vs ts : List ℕ} (t : Table limit n k start v
           let v = first-harms g (differ m d) (faultsOf m set) (w .closed) (steps-good g set) start (w .start-in) (steps-rise set k) s e .harm .valid in
           rw (
             read (run g start (sentTrace s)) (run-in (w .closed) start (sentTrace s) (w .start-in) (sent-trace g (steps set k) (steps-good g set) s v)),
-            read (run g start (receivedTrace s)) (run-in (w .closed) start (receivedTrace s) (w .start-in) (received-trace g (steps set k) (steps-good g set) s v)),
+            read (run g start (receivedTrace s))
+                (run-in (w .closed) start (receivedTrace s) (w .start-in) (received-trace g (steps set k) (steps-good g set) s v)),
           )
 
   pub table-answer : (room : ℕ) {r : Answer}
-      → r ≡ asks (roomQuestions (firstHarmful (automatonOf n k ts) (differing outs) (steps set k) start) room) (witnessFigures (λ q. getD outs q 0) (automatonOf n k ts) start (firstHarmful (automatonOf n k ts) (differing outs) (steps set k) start))
+      → r ≡ asks (roomQuestions (firstHarmful (automatonOf n k ts) (differing outs) (steps set k) start) room)
+      (witnessFigures (λ q. getD outs q 0) (automatonOf n k ts) start (firstHarmful (automatonOf n k ts) (differing outs) (steps set k) start))
       → r ≡ asks (roomQuestions (firstWitness m d set) room) (tableFigures m d set)
   table-answer room e =
       e
       ∙ ap (λ (o : Option Series). asks (roomQuestions o room) (witnessFigures (λ q. getD outs q 0) (automatonOf n k ts) start o)) first-same
       ∙ ap (asks (roomQuestions (firstWitness m d set) room)) figures-same
 
-  pub table-area : (r : Answer) (area : List ℕ) {after : List ℕ} → after ≡ written r (witnessTrace (firstHarmful (automatonOf n k ts) (differing outs) (steps set k) start)) area → after ≡ written r (witnessTrace (firstWitness m d set)) area
+  pub table-area : (r : Answer) (area : List ℕ) {after : List ℕ}
+      → after ≡ written r (witnessTrace (firstHarmful (automatonOf n k ts) (differing outs) (steps set k) start)) area
+      → after ≡ written r (witnessTrace (firstWitness m d set)) area
   table-area r area e = e ∙ ap (λ (o : Option Series). written r (witnessTrace o) area) first-same
 
 -- the marks are what every state reads under reading 3
@@ -85,8 +89,10 @@ module _ {limit n k start : ℕ} {vs ts : List ℕ} (t : Table limit n k start v
   table = tableOf n k start vs ts
 
   -- the finding for one fault set by marks, from an area that every witness fits
-  pub marks-answer : (set room : ℕ) → horizon limit ≤ room → {r : Answer} → r ≡ answerOf (shape n k start) vs ts set room → r ≡ answered (tableFigures table 3 set)
-  marks-answer set room large e = table-answer t 3 set vs marks-read room e ∙ room-enough limit table (t .well-formed) 3 set room large (tableFigures table 3 set)
+  pub marks-answer : (set room : ℕ) → horizon limit ≤ room → {r : Answer} → r ≡ answerOf (shape n k start) vs ts set room
+      → r ≡ answered (tableFigures table 3 set)
+  marks-answer set room large e =
+      table-answer t 3 set vs marks-read room e ∙ room-enough limit table (t .well-formed) 3 set room large (tableFigures table 3 set)
 
 -- a set built by adding one kind to the empty set
 pub alone : (m : Monitor) (rank : ℕ) (kind : Kind) {none one : ℕ} {r : Answer} → rankOf kind ≡ rank → none ≡ 0 → one ≡ bitOr none (bitOf kind)

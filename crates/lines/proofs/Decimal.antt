@@ -26,7 +26,8 @@ digits-are (suc w) zero n l h g =
 digits-are (suc w) (suc k) n l h g =
     let p = pow-succ' 10 k in
     let b : 10 ≤ n = omega (arith, p, g (omega arith), grows k) in
-    let r = digits-are w k (n / 10) (omega (arith, l)) (div-lt-iff-lt-mul (omega arith) .1 (omega (arith, h, pow-succ' 10 (suc k)))) (λ _. le-div-iff-mul-le (omega arith) .1 (omega (arith, p, g (omega arith)))) in
+    let r = digits-are w k (n / 10) (omega (arith, l)) (div-lt-iff-lt-mul (omega arith) .1 (omega (arith, h, pow-succ' 10 (suc k))))
+    (λ _. le-div-iff-mul-le (omega arith) .1 (omega (arith, p, g (omega arith)))) in
     rw (r, glyph-is (n % 10) (mod-lt n (omega arith)), le-ltb n 10 b)
 
 pub decimal-is : (n k : ℕ) → Fewest 10 1 n k → digits 10 k n ≡ decimal n
@@ -45,6 +46,7 @@ digits-length b (suc k) n = length-append (digits b k (n / b)) _ ∙ (let e = di
 pub fewest-short : (n k : ℕ) → n < 18446744073709551616 → Fewest 10 1 n k → k ≤ 20
 fewest-short n k h f =
     ⊎-elim
-    (λ (s : 20 < k). (let g = f .2 (omega arith) in let p = pow-le-pow-right {n = 10} (omega arith) {i = 20} {j = k - 1} (omega (arith, s)) in absurd (omega (arith, g, p, h))))
+    (λ (s : 20 < k). (let g = f .2 (omega arith) in let p = pow-le-pow-right {n = 10} (omega arith) {i = 20} {j = k - 1} (omega (arith, s)) in
+    absurd (omega (arith, g, p, h))))
     (λ (s : k ≤ 20). s)
     (lt-or-le 20 k)

@@ -35,7 +35,8 @@ pub record Putting (bytes before : List ℕ) (at : ℕ) (after : List ℕ) (i : 
 pub put-begins : (bytes before : List ℕ) (at : ℕ) → Putting bytes before at before 0
 put-begins bytes before at = record { upto = omega arith; holds = ap (λ (i : ℕ). take i before) (add-zero at) ∙ sym (append-nil (take at before)); same = refl }
 
-pub put-goes-on : {bytes before after : List ℕ} {at i : ℕ} → Putting bytes before at after i → i < length bytes → at + length bytes ≤ length before → Putting bytes before at (set after (at + i) (getD bytes i 0)) (i + 1)
+pub put-goes-on : {bytes before after : List ℕ} {at i : ℕ} → Putting bytes before at after i → i < length bytes → at + length bytes ≤ length before
+    → Putting bytes before at (set after (at + i) (getD bytes i 0)) (i + 1)
 put-goes-on {bytes} {before} {after} {at} {i} p h room = record {
   upto = omega arith;
   holds =
@@ -91,7 +92,8 @@ columns-none columns before at = record {
   put = record { ends = sym (add-zero at); holds = sym (append-nil (take at before)); same = refl };
 }
 
-pub columns-more : {columns : List Column} {before one two : List ℕ} {at end next rank : ℕ} (column : Column) → ColumnsPut columns before at one end rank → rank < kinds
+pub columns-more : {columns : List Column} {before one two : List ℕ} {at end next rank : ℕ} (column : Column)
+    → ColumnsPut columns before at one end rank → rank < kinds
     → take (suc rank) columns ≡ take rank columns ++ (column ∷ []) → Put (ascii " " ++ findingText (column .finding)) one end two next × (next ≤ end + 21)
     → ColumnsPut columns before at two next (rank + 1)
 columns-more {columns} {rank = rank} column h l e p = record {
@@ -109,7 +111,8 @@ columns-more {columns} {rank = rank} column h l e p = record {
         ∙ ap (λ (l : List ℕ). spaced (columnTexts (take rank columns)) (ascii " " ++ l)) (append-nil (findingText (column .finding)))
         ∙ spaced-then (columnTexts (take rank columns)) (ascii " " ++ findingText (column .finding)))
 
-pub columns-all : {columns : List Column} {before after : List ℕ} {at end rank : ℕ} → ColumnsPut columns before at after end rank → kinds ≤ rank → length columns ≡ kinds
+pub columns-all : {columns : List Column} {before after : List ℕ} {at end rank : ℕ} → ColumnsPut columns before at after end rank → kinds ≤ rank
+    → length columns ≡ kinds
     → Put (spaced (columnTexts columns) []) before at after end × (end ≤ at + 21 * kinds)
 columns-all {columns} {rank = rank} h l size =
     let e : rank ≡ kinds = omega (arith, l, h .upto) in
@@ -117,11 +120,13 @@ columns-all {columns} {rank = rank} h l size =
 
 -- the line of a card, from what stands before the columns, and the columns with the line feed
 pub line-of : (rule n y : ℕ) (columns : List Column) {before one two : List ℕ} {at to : ℕ}
-    → Put (decimal rule ++ ((ascii " " ++ decimal n) ++ (ascii " " ++ monitorabilityText y))) before 0 one at → Put (spaced (columnTexts columns) [] ++ ascii "\n") one at two to
+    → Put (decimal rule ++ ((ascii " " ++ decimal n) ++ (ascii " " ++ monitorabilityText y))) before 0 one at
+    → Put (spaced (columnTexts columns) [] ++ ascii "\n") one at two to
     → Put (shownLine rule n y columns) before 0 two to
 line-of rule n y columns p q = put-as text (then p q)
   where
-    text : (decimal rule ++ ((ascii " " ++ decimal n) ++ (ascii " " ++ monitorabilityText y))) ++ (spaced (columnTexts columns) [] ++ ascii "\n") ≡ shownLine rule n y columns
+    text : (decimal rule ++ ((ascii " " ++ decimal n) ++ (ascii " " ++ monitorabilityText y))) ++
+        (spaced (columnTexts columns) [] ++ ascii "\n") ≡ shownLine rule n y columns
     text =
         let figure = ascii " " ++ decimal n in
         let word = ascii " " ++ monitorabilityText y in

@@ -2,7 +2,7 @@
 use mathlib.Core.Path.{_≡_, refl, sym, ap, _∙_}
 use mathlib.Core.List.{List, [], _∷_, _++_}
 use mathlib.Core.Option.{Option, none, some}
-use Prim.Native.Nat.{ℕ, zero, suc, _+_, _≤_, _<_, _^_}
+use Prim.Native.Nat.{ℕ, zero, suc, _≤_, _<_, _^_}
 use native.Mathlib.Nat.{zero-add}
 use native.Mathlib.Omega.{arith}
 use lib.ListN.{length, getD, take, drop, length-take}
@@ -15,7 +15,6 @@ use Rattle.theory.specs.Faults.{kinds}
 use Rattle.theory.specs.Series.{Series}
 use Rattle.theory.specs.Computed.{extentOf, firstWitness, distance}
 use Rattle.theory.proofs.Answer.{written-over, asks-values, asks-other, asks-refuses}
-use Rattle.basics.specs.Refusals.{refusal}
 use Rattle.basics.specs.declared.Refusal.{Refusal}
 use Rattle.monitor.specs.Format.{monitorOf}
 use Rattle.monitor.specs.Questions.{tableQuestions, judgeAnswer}
@@ -23,7 +22,7 @@ use Rattle.immunity.specs.declared.Column.{Column}
 use Rattle.immunity.specs.declared.Finding.{Finding}
 use Rattle.immunity.specs.declared.Summary.{Summary}
 use Rattle.immunity.specs.declared.LinkCard.{LinkCard}
-use Rattle.immunity.specs.Findings.{witnessFigures, tableFigures, finding, summaryFigures, columnFigures, CardAnswer, cardAsking, cardAnswer, found, summarised, carded}
+use Rattle.immunity.specs.Findings.{witnessFigures, tableFigures, finding, summaryFigures, CardAnswer, cardAsking, cardAnswer, found, summarised, carded}
 use Rattle.immunity.proofs.Columns.{card-asks}
 use Rattle.lines.specs.Text.{ascii, decimal}
 use Rattle.lines.specs.Line.{distanceText, distanceTexts, refusalLine, ruleLine, lineAnswer, findingText, columnTexts, shownLine, Put}
@@ -74,7 +73,7 @@ found-length (column ∷ columns) = rw (found-length columns)
 
 -- ---- the line of a rule, by its card
 
-module _ (limit : ℕ) (b : List ℕ) (rule : ℕ) (card : LinkCard) (e : carded card ≡ cardAnswer limit b) where
+module _ (limit : ℕ) (b : List ℕ) (card : LinkCard) (e : carded card ≡ cardAnswer limit b) where
   abbrev m : Monitor
   m = monitorOf b
 
@@ -93,21 +92,23 @@ module _ (limit : ℕ) (b : List ℕ) (rule : ℕ) (card : LinkCard) (e : carded
   unfolding each
   columns-counted = found-length (card .columns) ∙ ap length columns
 
-  pub rule-carded : {n y : ℕ} → card .summary ≡ Summary.Table n y → shownLine rule n y (card .columns) ≡ ruleLine limit rule b
+  pub rule-carded : (rule : ℕ) {n y : ℕ} → card .summary ≡ Summary.Table n y → shownLine rule n y (card .columns) ≡ ruleLine limit rule b
   unfolding ruleLine judgeAnswer
-  rule-carded {n} {y} h =
+  rule-carded rule {n} {y} h =
       let passed : asks (tableQuestions limit b) (summaryFigures m) ≡ answered (n ∷ y ∷ []) = sym summary ∙ ap summarised h in
-      let accepts : (values : List ℕ) → asks (tableQuestions limit b) values ≡ answered values = λ values. asks-other (tableQuestions limit b) (summaryFigures m) values passed in
+      let accepts : (values : List ℕ)
+      → asks (tableQuestions limit b) values ≡ answered values = λ values. asks-other (tableQuestions limit b) (summaryFigures m) values passed in
       let texts : columnTexts (card .columns) ≡ distanceTexts m =
-      column-texts (card .columns) ∙ ap answerTexts (columns ∙ ap (λ (c : CardAnswer). c .columns) (sym (card-asks (tableQuestions limit b) m accepts))) ∙ distance-texts m kinds in
+      column-texts (card .columns) ∙ ap answerTexts (columns ∙ ap (λ (c : CardAnswer). c .columns) (sym (card-asks (tableQuestions limit b) m accepts)))
+      ∙ distance-texts m kinds in
       let values : summaryFigures m ≡ n ∷ y ∷ [] = asks-values (tableQuestions limit b) (summaryFigures m) passed in
       let states : m .automaton .states ≡ n = ap (λ (l : List ℕ). getD l 0 0) values in
       let monitorable : monitorability m ≡ y = ap (λ (l : List ℕ). getD l 1 0) values in
       rw (texts, ← states, ← monitorable, accepts [])
 
-  pub rule-refused : {x : Refusal} → card .summary ≡ Summary.Refused x → refusalLine rule (x .number) (x .place) ≡ ruleLine limit rule b
+  pub rule-refused : (rule : ℕ) {x : Refusal} → card .summary ≡ Summary.Refused x → refusalLine rule (x .number) (x .place) ≡ ruleLine limit rule b
   unfolding ruleLine judgeAnswer
-  rule-refused h = rw (asks-refuses (tableQuestions limit b) (summaryFigures m) [] (sym summary ∙ ap summarised h))
+  rule-refused rule h = rw (asks-refuses (tableQuestions limit b) (summaryFigures m) [] (sym summary ∙ ap summarised h))
 
 -- the line of a rule, put at the front of a buffer
 module _ (limit rule : ℕ) (body : List ℕ) {before after : List ℕ} {to : ℕ} (p : Put (ruleLine limit rule body) before 0 after to) where
@@ -133,7 +134,8 @@ module _ (limit rule : ℕ) (body : List ℕ) {before after : List ℕ} {to : �
       unfolding lineAnswer
       line-fits = rw (← line-length, le-leb to (length area) h)
 
-      pub line-written : take (length (take to after)) (take to after) ++ drop (length (take to after)) area ≡ written (lineAnswer limit rule body (length area)) (ruleLine limit rule body) area
+      pub line-written : take (length (take to after)) (take to after) ++ drop (length (take to after)) area ≡ written
+          (lineAnswer limit rule body (length area)) (ruleLine limit rule body) area
       line-written =
           ap (λ (l : List ℕ). take (length l) l ++ drop (length l) area) line-held
           ∙ ap (λ (l : List ℕ). l ++ drop (length (ruleLine limit rule body)) area) (take-length (ruleLine limit rule body))

@@ -31,7 +31,8 @@ both-word e = rw e
 pub none-word : {m : ℕ} → (m ≡ 0 → ⊥) → (m ≡ 1 → ⊥) → (m ≡ 2 → ⊥) → ascii " none" ≡ ascii " " ++ monitorabilityText m
 none-word {m} a b c = rw (ne-eqb m 0 a, ne-eqb m 1 b, ne-eqb m 2 c)
 
-pub refused-word : (f : Finding) → ((w : Witness) → f ≡ Finding.Vulnerable w → ⊥) → OneOf (0 ∷ 2 ∷ []) (tagOf the-finding.the-type f) → ascii " refused" ≡ ascii " " ++ findingText f
+pub refused-word : (f : Finding) → ((w : Witness) → f ≡ Finding.Vulnerable w → ⊥) → OneOf (0 ∷ 2 ∷ []) (tagOf the-finding.the-type f)
+    → ascii " refused" ≡ ascii " " ++ findingText f
 refused-word (Finding.Refused r) n k = refl
 refused-word Finding.Immune n k = absurd (⊎-elim (λ (z : _≡_ {A = ℕ} 1 0). omega arith) (λ (z : _≡_ {A = ℕ} 1 2). omega arith) k)
 refused-word (Finding.Vulnerable w) n k = absurd (n w refl)

@@ -13,7 +13,8 @@ use Rattle.theory.specs.Monitor.{Monitor, WellFormed}
 use Rattle.theory.proofs.Below.{first-none}
 use Rattle.theory.proofs.Answer.{asks-yes, asks-both, asks-refused, asks-passed, untouched}
 use Rattle.monitor.specs.Format.{statesOf, symbolsOf, startOf, drawnMarks, marks, nexts, tableOf, monitorOf, Table}
-use Rattle.monitor.specs.Questions.{firstNotBelow, revokes, firstRevoking, question6, question7, question8, headQuestions, rowQuestions, tableQuestions, judgeAnswer, judgement}
+use Rattle.monitor.specs.Questions.{firstNotBelow, revokes, firstRevoking, question6, question7, question8, headQuestions, rowQuestions, tableQuestions}
+use Rattle.monitor.specs.Questions.{judgeAnswer, judgement}
 use Rattle.basics.specs.Refusals.{refusal}
 use Rattle.basics.specs.declared.Refusal.{Refusal}
 use Rattle.monitor.specs.Opening.{Accepts, Opens}
@@ -28,7 +29,8 @@ use Rattle.monitor.proofs.Head.{Head, passed-head}
 use Rattle.monitor.proofs.Body.{marks-length, nexts-length, all-below, rows-of}
 
 -- what questions 6, 7 and 8 leave, whatever the limit
-pub well-formed-of : {limit : ℕ} {b : List ℕ} → Head limit b → firstNotBelow 3 (drawnMarks b) ≡ length (drawnMarks b) → firstNotBelow (statesOf b) (nexts b) ≡ length (nexts b)
+pub well-formed-of : {limit : ℕ} {b : List ℕ} → Head limit b → firstNotBelow 3 (drawnMarks b) ≡ length (drawnMarks b)
+    → firstNotBelow (statesOf b) (nexts b) ≡ length (nexts b)
     → firstRevoking (drawnMarks b) (nexts b) (symbolsOf b) ≡ length (nexts b) → WellFormed limit (monitorOf b)
 well-formed-of {limit} {b} h six seven eight = record {
   states-most = h .states-most;
@@ -39,7 +41,8 @@ well-formed-of {limit} {b} h six seven eight = record {
   verdict-in = λ q l. le-of-suc-le-suc (all-below 3 (drawnMarks b) six q (omega (arith, marks-length h)));
   verdict-kept = λ q a l g m.
       verdict-stays (drawnMarks b) (nexts b) q (symbolsOf b) (omega arith) (omega arith)
-      (first-none (revokes (drawnMarks b) (nexts b) (symbolsOf b)) 0 (length (nexts b)) (q * symbolsOf b + a) (omega arith) (omega arith) (omega (arith, nexts-length h, digits-lt l g))) m;
+      (first-none (revokes (drawnMarks b) (nexts b) (symbolsOf b)) 0 (length (nexts b)) (q * symbolsOf b + a) (omega arith) (omega arith)
+      (omega (arith, nexts-length h, digits-lt l g))) m;
 }
 
 module _ (limit : ℕ) (b : List ℕ) where

@@ -34,4 +34,5 @@ module _ (vs ts : List ℕ) (q k : ℕ) {i : ℕ} (l : q * k ≤ i) (h : i < q *
 
 -- no next state of an unmarked state gives up a verdict
 pub unmarked-row : (vs ts : List ℕ) (q k : ℕ) → getD vs q 0 ≡ 0 → q * k + k ≡ first (revokes vs ts k) (q * k) k
-unmarked-row vs ts q k e = scan-ends (record { from = omega arith; upto = le-refl (q * k + k); fails = λ j l h. unmarked-stays vs ts q k l h e }) (le-refl (q * k + k))
+unmarked-row vs ts q k e =
+    scan-ends (record { from = omega arith; upto = le-refl (q * k + k); fails = λ j l h. unmarked-stays vs ts q k l h e }) (le-refl (q * k + k))

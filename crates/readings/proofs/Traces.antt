@@ -8,8 +8,6 @@ use lib.Seq.{drop-cons}
 use borrow.Author.Tests.{eq-eqb, ne-eqb}
 use Rattle.theory.specs.Automaton.{Automaton, run}
 use Rattle.theory.specs.Monitor.{Monitor, class, reading}
-use Rattle.theory.proofs.Below.{first-whole}
-use Rattle.monitor.specs.Questions.{notBelow, firstNotBelow}
 
 module _ (m : Monitor) (d q : ℕ) where
   pub reads-mark : d ≡ 3 → m .verdict q ≡ reading m d q
@@ -32,7 +30,3 @@ module _ (g : Automaton) (w : List ℕ) where
 -- a state that is equal to another reads the same
 pub reads-at : (m : Monitor) (d : ℕ) {p q r : ℕ} → p ≡ q → r ≡ reading m d p → r ≡ reading m d q
 reads-at m d e h = h ∙ ap (reading m d) e
-
--- a scan that reached the end found every symbol below the bound
-pub symbols-below : (w : List ℕ) (k : ℕ) {i : ℕ} → i ≡ firstNotBelow k w → length w ≤ i → firstNotBelow k w ≡ length w
-symbols-below w k e l = first-whole (notBelow k w) (length w) e l

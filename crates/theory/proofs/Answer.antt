@@ -49,7 +49,8 @@ pub asks-other : (qs : List Question) (values other : List ℕ) {given : List �
 asks-other [] values other e = refl
 asks-other (q ∷ qs) values other e = (let y = asks-yes q qs values e in rw (y .0) (asks-other qs values other (y .1)))
 
-pub asks-refuses : (qs : List Question) (values other : List ℕ) {number place : ℕ} → asks qs values ≡ refused number place → asks qs other ≡ refused number place
+pub asks-refuses : (qs : List Question) (values other : List ℕ) {number place : ℕ} → asks qs values ≡ refused number place
+    → asks qs other ≡ refused number place
 asks-refuses qs values other e = ap (λ (l : List Question). asks l other) (sym (append-nil qs)) ∙ asks-refused qs [] other values e
 
 -- a list of questions without a no has none in its first part and none in its second

@@ -23,20 +23,11 @@ returns c = reads-empty _ (c .if1 .taken)
 loop-holds : tie.Need-loop-holds Inv-loop μ-loop
 loop-holds c = reads-nothing _
 
-shared-slice-read-is-digit : tie.Need-shared-slice-read-is-digit Inv-loop μ-loop
-shared-slice-read-is-digit c = search needs
-
-is-digit-requires : tie.Need-is-digit-requires Inv-loop μ-loop
-is-digit-requires c κs = search needs
-
 returns-2 : tie.Need-returns-2 Inv-loop μ-loop
 returns-2 c =
     let d = c .before .is-digit in
     reads-other (c .before .before .before .before .loop .inv) (c .before .before .before .loop-test .taken)
     (sym (d .ensures) ∙ not-true (d .result) (c .if2 .taken))
-
-shared-slice-read-digit : tie.Need-shared-slice-read-digit Inv-loop μ-loop
-shared-slice-read-digit c = search needs
 
 -- past the test the byte is a digit
 digit : (c : tie.After-shared-slice-known3 Inv-loop μ-loop)
@@ -50,20 +41,8 @@ sub-digit c = digit-least _ (digit c)
 cast-digit : tie.Need-cast-digit Inv-loop μ-loop
 cast-digit c = omega (arith, c .shared-slice-known3 .given (c .before .before .before .before .before .loop .i))
 
-mul-least-of : tie.Need-mul-least-of Inv-loop μ-loop
-mul-least-of c = omega (arith, c .before .before .before .before .before .loop .inv .small)
-
 add-least-of : tie.Need-add-least-of Inv-loop μ-loop
 add-least-of c = (let at = c .before .before .before .before .before .loop in omega (arith, at .inv .small, c .shared-slice-known3 .given (at .i)))
-
-least-of-requires : tie.Need-least-of-requires Inv-loop μ-loop
-least-of-requires c κs = search needs
-
-add-i : tie.Need-add-i Inv-loop μ-loop
-add-i c = search needs
-
-loop-less : tie.Need-loop-less Inv-loop μ-loop
-loop-less c = search needs
 
 loop-again : tie.Need-loop-again Inv-loop μ-loop
 loop-again c =
@@ -75,5 +54,5 @@ returns-3 c = reads-all (c .before .loop .inv) (omega (arith, c .before .before 
 
 pub read-decimal-spec : {M : Type 1} → statement M
 read-decimal-spec =
-    tie.close (tie.spec Inv-loop μ-loop returns loop-holds shared-slice-read-is-digit is-digit-requires returns-2 shared-slice-read-digit sub-digit
-    cast-digit mul-least-of add-least-of least-of-requires add-i loop-less loop-again returns-3)
+    tie.close (tie.spec Inv-loop μ-loop returns loop-holds (λ c. search needs) (λ c κs. search needs) returns-2 (λ c. search needs) sub-digit cast-digit
+    (λ c. search needs) add-least-of (λ c κs. search needs) (λ c. search needs) (λ c. search needs) loop-again returns-3)

@@ -5,17 +5,11 @@ use Rattle.classes.proofs.Tables.{class-by-is}
 use Rattle.classes.proofs.class_of.Statement.{statement}
 use Rattle.classes.proofs.class_of.Tie as tie
 
-outlook-of-requires : tie.Need-outlook-of-requires
-outlook-of-requires c κs = search needs
-
-class-by-requires : tie.Need-class-by-requires
-class-by-requires c κs = search needs
-
 returns : tie.Need-returns
 returns c =
-    let a = c .before .before .before .before .args in
+    let p = c .before .before .before .before .pre in
     let o = c .before .outlook-of .ensures in
-    c .class-by .ensures ∙ class-by-is (a .t .symbols) (a .t .start) (a .marks .now) (a .nexts .now) (o .0) (o .1) (a .q) (c .before .before .before .before .pre .1)
+    c .class-by .ensures ∙ class-by-is (p .0) (o .0) (o .1) _ (p .1)
 
 pub class-of-spec : {M : Type 1} → statement M
-class-of-spec = tie.close (tie.spec outlook-of-requires class-by-requires returns)
+class-of-spec = tie.close (tie.spec (λ c κs. search needs) (λ c κs. search needs) returns)

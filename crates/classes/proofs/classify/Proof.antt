@@ -8,30 +8,17 @@ use Rattle.classes.specs.Classify.{classList, classifyQuestions, classif
 use Rattle.classes.proofs.classify.Statement.{statement}
 use Rattle.classes.proofs.classify.Tie as tie
 
-slice-aggregate-open : tie.Need-slice-aggregate-open
-slice-aggregate-open c = search needs
-
-open-requires : tie.Need-open-requires
-open-requires c κs = search needs
-
-enum-known-r : tie.Need-enum-known-r
-enum-known-r c = search needs
-
-enum-known-t : tie.Need-enum-known-t
-enum-known-t c = search needs
-
 array-share-prefix-marks : tie.Need-array-share-prefix-marks
 array-share-prefix-marks c = marks-lie (opened-yes stateLimit _ _ (c .before .before .before .before .«open» .ensures) (c .before .t .given .1))
 
 slice-aggregate-classify-table : tie.Need-slice-aggregate-classify-table
-slice-aggregate-classify-table c = marks-counted (opened-yes stateLimit _ _ (c .before .before .before .before .before .«open» .ensures) (c .before .before .t .given .1))
-
-next-states-requires : tie.Need-next-states-requires
-next-states-requires c κs = search needs
+slice-aggregate-classify-table c =
+    marks-counted (opened-yes stateLimit _ _ (c .before .before .before .before .before .«open» .ensures) (c .before .before .t .given .1))
 
 classify-table-requires : tie.Need-classify-table-requires
 classify-table-requires c κs =
-    table-handed (opened-yes stateLimit _ _ (c .before .before .before .before .before .before .before .«open» .ensures) (c .before .before .before .before .t .given .1))
+    table-handed (opened-yes stateLimit _ _ (c .before .before .before .before .before .before .before .«open» .ensures)
+    (c .before .before .before .before .t .given .1))
     (c .before .next-states .ensures)
 
 returns : tie.Need-returns
@@ -43,30 +30,17 @@ returns c =
     refused-writes stateLimit (a .body .now) (classifyQuestions (length area) m) (classifyFigures m) (classList m) area
     (opened-no stateLimit (a .body .now) _ (c .before .before .before .before .«open» .ensures) (c .before .r .given .1))
 
-same-length : tie.Need-same-length
-same-length c = search needs
-
 returns-2 : tie.Need-returns-2
 unfolding classifyAnswer
 returns-2 c =
     let area = c .before .before .before .before .before .before .before .before .before .before .before .before .before .before .args .area .now in
     let opened = c .before .before .before .before .before .before .before .before .before .before .«open» .ensures in
     let e = c .before .before .classify-table .ensures in
-    opened-writes (opened-yes stateLimit _ _ opened (c .before .before .before .before .before .before .before .t .given .1)) (c .before .before .before .before .next-states .ensures)
+    opened-writes (opened-yes stateLimit _ _ opened (c .before .before .before .before .before .before .before .t .given .1))
+    (c .before .before .before .before .next-states .ensures)
     (classifyQuestions (length area)) classifyFigures classList area (e .0) (e .1)
 
 pub classify-spec : {M : Type 1} → statement M
 classify-spec =
-    tie.close
-    (tie.spec
-    slice-aggregate-open
-    open-requires
-    enum-known-r
-    enum-known-t
-    array-share-prefix-marks
-    slice-aggregate-classify-table
-    next-states-requires
-    classify-table-requires
-    returns
-    same-length
-    returns-2)
+    tie.close (tie.spec (λ c. search needs) (λ c κs. search needs) (λ c. search needs) (λ c. search needs) array-share-prefix-marks
+    slice-aggregate-classify-table (λ c κs. search needs) classify-table-requires returns (λ c. search needs) returns-2)

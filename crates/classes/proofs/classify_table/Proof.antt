@@ -7,7 +7,7 @@ use borrow.Author.Needs.{needs}
 use borrow.Author.Tests.{le-leb, lt-leb}
 use Rattle.theory.specs.Monitor.{class}
 use Rattle.theory.proofs.Values.{length-values}
-use Rattle.monitor.specs.Format.{tableOf}
+use Rattle.monitor.specs.Opening.{monitorIn}
 use Rattle.classes.specs.Classify.{classList}
 use Rattle.classes.proofs.Tables.{figures-are, area-is}
 use Rattle.classes.proofs.classify_table.Statement.{statement}
@@ -16,50 +16,22 @@ use Rattle.classes.proofs.classify_table.Tie as tie
 returns : tie.Need-returns
 returns c = (rw (lt-leb _ _ (c .if1 .taken)), refl)
 
-outlook-of-requires : tie.Need-outlook-of-requires
-outlook-of-requires c κs = search needs
-
-reachable-requires : tie.Need-reachable-requires
-reachable-requires c κs = search needs
-
-write-classes-requires : tie.Need-write-classes-requires
-write-classes-requires c κs = search needs
-
-monitorability-by-requires : tie.Need-monitorability-by-requires
-monitorability-by-requires c κs = search needs
-
-count-requires : tie.Need-count-requires
-count-requires c κs = search needs
-
-same-length : tie.Need-same-length
-same-length c = search needs
-
 returns-2 : tie.Need-returns-2
 returns-2 c =
     let start = c .before .before .before .before .before .before .before .before .before .before .before .before in
     let a = start .args in
-    let t = a .t in
     let o = c .before .before .before .before .before .before .before .outlook-of .ensures in
     let r = c .before .before .before .before .before .before .reachable .ensures in
-    let l = start .pre .marks-length in
     let fits = c .before .before .before .before .before .before .before .before .if1 .left in
-    let m = tableOf (t .states) (t .symbols) (t .start) (a .marks .now) (a .nexts .now) in (
-      figures-are (t .symbols) (t .start) (a .marks .now) (a .nexts .now) (o .0) (o .1) (start .pre) r (c .before .monitorability-by .ensures) (c .count .ensures)
-          ∙ rw (le-leb (t .states) (length (a .area .now)) fits),
+    let m = monitorIn (a .t) (a .marks) (a .nexts) in (
+      figures-are (start .pre) (o .0) (o .1) r (c .before .monitorability-by .ensures) (c .count .ensures)
+          ∙ rw (le-leb (a .t .states) (length (a .area .now)) fits),
       c .before .before .before .before .write-classes .ensures
-          ∙ area-is (t .symbols) (t .start) (a .marks .now) (a .nexts .now) (o .0) (o .1) l (a .area .now)
-          ∙ ap (λ (i : ℕ). classList m ++ drop i (a .area .now)) (sym (length-values (t .states) (class m))),
+          ∙ area-is (start .pre) (o .0) (o .1) (a .area .now)
+          ∙ ap (λ (i : ℕ). classList m ++ drop i (a .area .now)) (sym (length-values (a .t .states) (class m))),
     )
 
 pub classify-table-spec : {M : Type 1} → statement M
 classify-table-spec =
-    tie.close
-    (tie.spec
-    returns
-    outlook-of-requires
-    reachable-requires
-    write-classes-requires
-    monitorability-by-requires
-    count-requires
-    same-length
-    returns-2)
+    tie.close (tie.spec returns (λ c κs. search needs) (λ c κs. search needs) (λ c κs. search needs) (λ c κs. search needs) (λ c κs. search needs)
+    (λ c. search needs) returns-2)

@@ -4,44 +4,19 @@ use Rattle.classes.proofs.Tables.{some-ugly, none-ugly}
 use Rattle.classes.proofs.monitorability_by.Statement.{statement}
 use Rattle.classes.proofs.monitorability_by.Tie as tie
 
-minus-requires : tie.Need-minus-requires
-minus-requires c κs = search needs
-
-minus-requires-2 : tie.Need-minus-requires-2
-minus-requires-2 c κs = search needs
-
-count-requires : tie.Need-count-requires
-count-requires c κs = search needs
-
 returns : tie.Need-returns
 returns c =
     let a = c .before .before .before .before .before .before .before .args in
-    let rest = c .before .before .before .minus in
-    let ugly = c .before .before .minus2 in
-    some-ugly (a .marks .now) (a .outlook .truth) (a .outlook .falsity) (a .reached) (rest .result) (ugly .result) (a .start) (rest .ensures) (ugly .ensures) (c .before .count .ensures) (c .if1 .taken)
-
-class-by-requires : tie.Need-class-by-requires
-class-by-requires c κs = search needs
-
-weak-of-requires : tie.Need-weak-of-requires
-weak-of-requires c κs = search needs
+    some-ugly (a .marks .now) _ _ _ _ _ (a .start) (c .before .before .before .minus .ensures) (c .before .before .minus2 .ensures) (c .before .count .ensures)
+    (c .if1 .taken)
 
 returns-2 : tie.Need-returns-2
 returns-2 c =
-    let a = c .before .before .before .before .before .before .before .before .before .args in
-    let rest = c .before .before .before .before .before .minus in
-    let ugly = c .before .before .before .before .minus2 in
-    none-ugly (a .marks .now) (a .outlook .truth) (a .outlook .falsity) (a .reached) (rest .result) (ugly .result) (a .start) (rest .ensures) (ugly .ensures) (c .before .before .before .count .ensures)
+    let ugly = c .before .before .before .before in
+    let a = ugly .before .before .before .before .before .args in
+    none-ugly (a .marks .now) _ _ _ _ _ (a .start) (ugly .before .minus .ensures) (ugly .minus2 .ensures) (c .before .before .before .count .ensures)
     (c .before .before .if1 .left) (c .weak-of .ensures) (c .before .class-by .ensures)
 
 pub monitorability-by-spec : {M : Type 1} → statement M
 monitorability-by-spec =
-    tie.close
-    (tie.spec
-    minus-requires
-    minus-requires-2
-    count-requires
-    returns
-    class-by-requires
-    weak-of-requires
-    returns-2)
+    tie.close (tie.spec (λ c κs. search needs) (λ c κs. search needs) (λ c κs. search needs) returns (λ c κs. search needs) (λ c κs. search needs) returns-2)

@@ -5,21 +5,10 @@ use Rattle.classes.proofs.Tables.{monitorability-is}
 use Rattle.classes.proofs.monitorability_of.Statement.{statement}
 use Rattle.classes.proofs.monitorability_of.Tie as tie
 
-outlook-of-requires : tie.Need-outlook-of-requires
-outlook-of-requires c κs = search needs
-
-reachable-requires : tie.Need-reachable-requires
-reachable-requires c κs = search needs
-
-monitorability-by-requires : tie.Need-monitorability-by-requires
-monitorability-by-requires c κs = search needs
-
 returns : tie.Need-returns
 returns c =
-    let start = c .before .before .before .before .before in
-    let a = start .args in
     let o = c .before .before .outlook-of .ensures in
-    c .monitorability-by .ensures ∙ monitorability-is (a .t .symbols) (a .t .start) (a .marks .now) (a .nexts .now) (o .0) (o .1) (start .pre) (c .before .reachable .ensures)
+    c .monitorability-by .ensures ∙ monitorability-is (c .before .before .before .before .before .pre) (o .0) (o .1) (c .before .reachable .ensures)
 
 pub monitorability-of-spec : {M : Type 1} → statement M
-monitorability-of-spec = tie.close (tie.spec outlook-of-requires reachable-requires monitorability-by-requires returns)
+monitorability-of-spec = tie.close (tie.spec (λ c κs. search needs) (λ c κs. search needs) (λ c κs. search needs) returns)

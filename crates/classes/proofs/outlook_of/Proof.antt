@@ -5,18 +5,6 @@ use Rattle.classes.proofs.Tables.{exactly-at, reaching-is}
 use Rattle.classes.proofs.outlook_of.Statement.{statement}
 use Rattle.classes.proofs.outlook_of.Tie as tie
 
-states-marked-requires : tie.Need-states-marked-requires
-states-marked-requires c κs = search needs
-
-reaching-requires : tie.Need-reaching-requires
-reaching-requires c κs = search needs
-
-states-marked-requires-2 : tie.Need-states-marked-requires-2
-states-marked-requires-2 c κs = search needs
-
-reaching-requires-2 : tie.Need-reaching-requires-2
-reaching-requires-2 c κs = search needs
-
 returns : tie.Need-returns
 returns c =
     let s = c .before .before .before .before .before .before in
@@ -26,11 +14,4 @@ returns c =
     )
 
 pub outlook-of-spec : {M : Type 1} → statement M
-outlook-of-spec =
-    tie.close
-    (tie.spec
-    states-marked-requires
-    reaching-requires
-    states-marked-requires-2
-    reaching-requires-2
-    returns)
+outlook-of-spec = tie.close (tie.spec (λ c κs. search needs) (λ c κs. search needs) (λ c κs. search needs) (λ c κs. search needs) returns)

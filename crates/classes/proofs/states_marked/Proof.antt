@@ -19,25 +19,10 @@ Inv-loop marks v set₀ q₀ set q = (q ≤ length marks) × Exactly q (hasMark 
 abbrev μ-loop : tie.MeasureT-loop
 μ-loop marks v set₀ q₀ set q = length marks - q
 
-empty-requires : tie.Need-empty-requires Inv-loop μ-loop
-empty-requires c κs = search needs
-
 loop-holds : tie.Need-loop-holds Inv-loop μ-loop
 loop-holds c =
     let a = c .before .before .args in
     (search needs, record { at = marked-none (hasMark (a .marks .now) (a .v)) (member (c .empty .result)) (c .empty .ensures) })
-
-shared-slice-read-if1 : tie.Need-shared-slice-read-if1 Inv-loop μ-loop
-shared-slice-read-if1 c = search needs
-
-with-requires : tie.Need-with-requires Inv-loop μ-loop
-with-requires c κs = search needs
-
-add-q : tie.Need-add-q Inv-loop μ-loop
-add-q c = search needs
-
-loop-less : tie.Need-loop-less Inv-loop μ-loop
-loop-less c = search needs
 
 loop-again : tie.Need-loop-again Inv-loop μ-loop
 loop-again c =
@@ -47,7 +32,9 @@ loop-again c =
       search needs,
       ⊎-elim
           (λ w. subst (Exactly _ f) (sym (w .2)) (record {
-            at = marked-more f (member (at .set)) (at .q) (at .inv .1 .at) stateLimit (member (w .1 .result)) (lt-of-lt-of-le (c .before .before .loop-test .taken) (c .before .before .before .before .before .before .pre)) (eq-eqb _ _ (w .0 .taken)) (w .1 .ensures);
+            at = marked-more f (member (at .set)) (at .q) (at .inv .1 .at) stateLimit (member (w .1 .result))
+                (lt-of-lt-of-le (c .before .before .loop-test .taken) (c .before .before .before .before .before .before .pre)) (eq-eqb _ _ (w .0 .taken))
+                (w .1 .ensures);
           }))
           (λ w. subst (Exactly _ f) (sym (w .1)) (record { at = marked-same f (member (at .set)) (at .q) (at .inv .1 .at) (ne-eqb _ _ (w .0 .left)) }))
           (c .if1 .came),
@@ -56,19 +43,10 @@ loop-again c =
 returns : tie.Need-returns Inv-loop μ-loop
 returns c =
     let at = c .before .loop in
-    subst (λ (i : ℕ). Exactly i (hasMark (c .before .before .before .before .args .marks .now) (c .before .before .before .before .args .v)) (at .set)) (le-antisymm (at .inv .0) (c .loop-test .left)) (at .inv .1)
+    subst (λ (i : ℕ). Exactly i (hasMark (c .before .before .before .before .args .marks .now) (c .before .before .before .before .args .v)) (at .set))
+    (le-antisymm (at .inv .0) (c .loop-test .left)) (at .inv .1)
 
 pub states-marked-spec : {M : Type 1} → statement M
 states-marked-spec =
-    tie.close
-    (tie.spec
-    Inv-loop
-    μ-loop
-    empty-requires
-    loop-holds
-    shared-slice-read-if1
-    with-requires
-    add-q
-    loop-less
-    loop-again
-    returns)
+    tie.close (tie.spec Inv-loop μ-loop (λ c κs. search needs) loop-holds (λ c. search needs) (λ c κs. search needs) (λ c. search needs) (λ c. search needs)
+    loop-again returns)

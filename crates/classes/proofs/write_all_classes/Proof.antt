@@ -5,21 +5,10 @@ use Rattle.classes.proofs.Tables.{area-is}
 use Rattle.classes.proofs.write_all_classes.Statement.{statement}
 use Rattle.classes.proofs.write_all_classes.Tie as tie
 
-outlook-of-requires : tie.Need-outlook-of-requires
-outlook-of-requires c κs = search needs
-
-write-classes-requires : tie.Need-write-classes-requires
-write-classes-requires c κs = search needs
-
-same-length : tie.Need-same-length
-same-length c = search needs
-
 returns : tie.Need-returns
 returns c =
-    let start = c .before .before .before .before .before .before .before .before in
-    let a = start .args in
     let o = c .before .before .before .before .outlook-of .ensures in
-    c .before .before .write-classes .ensures ∙ area-is (a .t .symbols) (a .t .start) (a .marks .now) (a .nexts .now) (o .0) (o .1) (start .pre .0 .marks-length) (a .area .now)
+    c .before .before .write-classes .ensures ∙ area-is (c .before .before .before .before .before .before .before .before .pre .0) (o .0) (o .1) _
 
 pub write-all-classes-spec : {M : Type 1} → statement M
-write-all-classes-spec = tie.close (tie.spec outlook-of-requires write-classes-requires same-length returns)
+write-all-classes-spec = tie.close (tie.spec (λ c κs. search needs) (λ c κs. search needs) (λ c. search needs) returns)

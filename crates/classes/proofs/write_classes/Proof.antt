@@ -26,19 +26,11 @@ long : (c : tie.At-loop Inv-loop μ-loop) → length (c .loop .area) ≡ length 
 long c =
     let a = c .before .before .before .args in
     ap length (c .loop .inv .1)
-    ∙ length-filled (classBy (a .marks .now) (a .outlook .truth) (a .outlook .falsity)) (a .area .now) (c .loop .i) (le-trans (c .loop .inv .0) (c .before .before .before .pre))
-
-class-by-requires : tie.Need-class-by-requires Inv-loop μ-loop
-class-by-requires c κs = search needs
+    ∙ length-filled (classBy (a .marks .now) (a .outlook .truth) (a .outlook .falsity)) (a .area .now) (c .loop .i)
+    (le-trans (c .loop .inv .0) (c .before .before .before .pre))
 
 slice-write-area : tie.Need-slice-write-area Inv-loop μ-loop
 slice-write-area c = rw (long (c .before .before)) (lt-of-lt-of-le (c .before .loop-test .taken) (c .before .before .before .before .before .pre))
-
-add-i : tie.Need-add-i Inv-loop μ-loop
-add-i c = search needs
-
-loop-less : tie.Need-loop-less Inv-loop μ-loop
-loop-less c = search needs
 
 loop-again : tie.Need-loop-again Inv-loop μ-loop
 loop-again c =
@@ -46,7 +38,8 @@ loop-again c =
     let at = c .before .before .loop in (
       search needs,
       ap₂ (λ (l : List ℕ) (v : ℕ). set l (at .i) v) (at .inv .1) (c .class-by .ensures)
-          ∙ filled-turn (classBy (a .marks .now) (a .outlook .truth) (a .outlook .falsity)) (a .area .now) (at .i) (lt-of-lt-of-le (c .before .loop-test .taken) (c .before .before .before .before .before .pre)),
+          ∙ filled-turn (classBy (a .marks .now) (a .outlook .truth) (a .outlook .falsity)) (a .area .now) (at .i)
+          (lt-of-lt-of-le (c .before .loop-test .taken) (c .before .before .before .before .before .pre)),
     )
 
 same-length : tie.Need-same-length Inv-loop μ-loop
@@ -60,15 +53,5 @@ returns c =
 
 pub write-classes-spec : {M : Type 1} → statement M
 write-classes-spec =
-    tie.close
-    (tie.spec
-    Inv-loop
-    μ-loop
-    loop-holds
-    class-by-requires
-    slice-write-area
-    add-i
-    loop-less
-    loop-again
-    same-length
+    tie.close (tie.spec Inv-loop μ-loop loop-holds (λ c κs. search needs) slice-write-area (λ c. search needs) (λ c. search needs) loop-again same-length
     returns)

@@ -9,21 +9,6 @@ use borrow.Author.Needs.{needs}
 use Rattle.collection.proofs.body_offset.Statement.{statement}
 use Rattle.collection.proofs.body_offset.Tie as tie
 
-entry-requires : tie.Need-entry-requires
-entry-requires c κs = search needs
-
-two-bytes-at-requires : tie.Need-two-bytes-at-requires
-two-bytes-at-requires c κs = search needs
-
-two-bytes-at-requires-2 : tie.Need-two-bytes-at-requires-2
-two-bytes-at-requires-2 c κs = search needs
-
-mul-result : tie.Need-mul-result
-mul-result c = search needs
-
-add-result : tie.Need-add-result
-add-result c = search needs
-
 returns : tie.Need-returns
 returns c =
     let bytes = c .before .before .entry in
@@ -32,4 +17,4 @@ returns c =
     (four-is (bytes .result .now) (low .0) (high .0) ∙ ap (λ (l : List ℕ). numberAt 4 l 0) (bytes .ensures), omega (arith, low .1, high .1))
 
 pub body-offset-spec : {M : Type 1} → statement M
-body-offset-spec = tie.close (tie.spec entry-requires two-bytes-at-requires two-bytes-at-requires-2 mul-result add-result returns)
+body-offset-spec = tie.close (tie.spec (λ c κs. search needs) (λ c κs. search needs) (λ c κs. search needs) (λ c. search needs) (λ c. search needs) returns)

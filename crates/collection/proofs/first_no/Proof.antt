@@ -17,17 +17,8 @@ abbrev μ-loop : tie.MeasureT-loop
 loop-holds : tie.Need-loop-holds Inv-loop μ-loop
 loop-holds c = scan-begins _ _ _
 
-passes-requires : tie.Need-passes-requires Inv-loop μ-loop
-passes-requires c κs = search needs
-
 returns : tie.Need-returns Inv-loop μ-loop
 returns c = scan-finds (c .before .before .before .loop .inv) (rw (← c .before .passes .ensures, c .if1 .taken))
-
-add-i : tie.Need-add-i Inv-loop μ-loop
-add-i c = search needs
-
-loop-less : tie.Need-loop-less Inv-loop μ-loop
-loop-less c = search needs
 
 loop-again : tie.Need-loop-again Inv-loop μ-loop
 loop-again c = scan-goes-on (c .before .before .before .loop .inv) (omega arith) (rw (← c .before .passes .ensures, c .if1 .left))
@@ -36,4 +27,4 @@ returns-2 : tie.Need-returns-2 Inv-loop μ-loop
 returns-2 c = scan-ends (c .before .loop .inv) (omega arith)
 
 pub first-no-spec : {M : Type 1} → statement M
-first-no-spec = tie.close (tie.spec Inv-loop μ-loop loop-holds passes-requires returns add-i loop-less loop-again returns-2)
+first-no-spec = tie.close (tie.spec Inv-loop μ-loop loop-holds (λ c κs. search needs) returns (λ c. search needs) (λ c. search needs) loop-again returns-2)

@@ -1,99 +1,87 @@
--- `judge` meets its contract.
-use mathlib.Core.Path.{sym, _∙_}
+-- `judge` meets its contract: the questions that are left once the first are answered yes.
+use mathlib.Core.Path.{_≡_, sym, ap, _∙_}
+use mathlib.Core.List.{List, [], _∷_}
+use Prim.Native.Nat.{ℕ}
+use native.Mathlib.Nat.{zero-add}
 use borrow.Author.Needs.{needs}
-use Rattle.collection.proofs.Order.{short, many, entries-cut, unsorted, misplaced, other-end, accepted}
+use borrow.Author.Tests.{le-leb, lt-leb, eq-eqb, ne-eqb}
+use Rattle.theory.specs.Answer.{Question, asks}
+use Rattle.collection.specs.Contents.{countOf, startOfBody, ruleOf, question23, question24, question25, collectionAnswer}
+use Rattle.collection.proofs.Order.{found-at, found-one, found-none}
 use Rattle.collection.proofs.judge.Statement.{statement}
 use Rattle.collection.proofs.judge.Tie as tie
 
-refused-requires : tie.Need-refused-requires
-refused-requires c κs = search needs
+-- the first questions are answered yes, these are left
+abbrev Left : List ℕ → List Question → Type 0
+Left file questions = collectionAnswer file ≡ asks questions (countOf file ∷ [])
+
+three : (c : tie.After-first-no)
+    → (let file = c .before .before .before .before .before .before .args .file .now in
+    Left file (question23 (ruleOf file) (countOf file) ∷ question24 file ∷ question25 file ∷ []))
+unfolding collectionAnswer
+three c =
+    let read = c .before .before .before in
+    let few = le-leb _ 512 (c .before .before .if2 .left) in
+    rw (← (read .two-bytes-at .ensures .0), le-leb 2 _ (read .before .if1 .left), few, le-leb _ _ (c .before .if3 .left))
+
+four : (c : tie.After-first-no2)
+    → (let file = c .before .before .before .before .before .before .before .before .args .file .now in
+    Left file (question24 file ∷ question25 file ∷ []))
+four c =
+    let count = c .before .before .before .before .before .two-bytes-at .ensures .0 in
+    three (c .before .before) ∙ rw (found-none _ count (c .before .before .first-no .ensures) (c .before .if4 .left))
+
+five : (c : tie.After-start-of-body)
+    → (let file = c .before .before .before .before .before .before .before .before .before .before .args .file .now in
+    Left file (question25 file ∷ []))
+five c =
+    let count = c .before .before .before .before .before .before .before .two-bytes-at .ensures .0 in
+    four (c .before .before) ∙ rw (found-none _ count (c .before .before .first-no2 .ensures) (c .before .if5 .left))
 
 returns : tie.Need-returns
-returns c = c .refused .ensures ∙ sym (short _ (c .before .if1 .taken))
-
-two-bytes-at-requires : tie.Need-two-bytes-at-requires
-two-bytes-at-requires c κs = search needs
-
-refused-requires-2 : tie.Need-refused-requires-2
-refused-requires-2 c κs = search needs
+unfolding collectionAnswer
+returns c = c .refused .ensures ∙ sym (rw (lt-leb 2 _ (c .before .if1 .taken)))
 
 returns-2 : tie.Need-returns-2
+unfolding collectionAnswer
 returns-2 c =
-    let q20 = c .before .before .before in
-    c .refused2 .ensures ∙ sym (many _ (q20 .if1 .left) (c .before .before .two-bytes-at .ensures .0) (c .before .if2 .taken))
-
-mul-if3 : tie.Need-mul-if3
-mul-if3 c = search needs
-
-add-if3 : tie.Need-add-if3
-add-if3 c = search needs
-
-refused-requires-3 : tie.Need-refused-requires-3
-refused-requires-3 c κs = search needs
+    let read = c .before .before in
+    c .refused2 .ensures ∙ sym (rw (le-leb 2 _ (read .before .if1 .left), ← (read .two-bytes-at .ensures .0), lt-leb _ 512 (c .before .if2 .taken)))
 
 returns-3 : tie.Need-returns-3
+unfolding collectionAnswer
 returns-3 c =
-    let q20 = c .before .before .before .before in
+    let read = c .before .before .before in
+    let few = le-leb _ 512 (c .before .before .if2 .left) in
     c .refused3 .ensures
-    ∙ sym (entries-cut _ (q20 .if1 .left) (c .before .before .before .two-bytes-at .ensures .0) (c .before .before .if2 .left) (c .before .if3 .taken))
-
-first-no-requires : tie.Need-first-no-requires
-first-no-requires c κs = search needs
-
-refused-requires-4 : tie.Need-refused-requires-4
-refused-requires-4 c κs = search needs
+    ∙ sym (rw (le-leb 2 _ (read .before .if1 .left), ← (read .two-bytes-at .ensures .0), few, lt-leb _ _ (c .before .if3 .taken)))
 
 returns-4 : tie.Need-returns-4
 returns-4 c =
-    let q22 = c .before .before .before in
-    let q20 = q22 .before .before .before in
-    c .refused4 .ensures
-    ∙ sym (unsorted _ (q20 .if1 .left) (q22 .before .before .two-bytes-at .ensures .0) (q22 .before .if2 .left) (q22 .if3 .left)
-    (c .before .before .first-no .ensures) (c .before .if4 .taken))
-
-first-no-requires-2 : tie.Need-first-no-requires-2
-first-no-requires-2 c κs = search needs
-
-refused-requires-5 : tie.Need-refused-requires-5
-refused-requires-5 c κs = search needs
+    let count = c .before .before .before .before .before .two-bytes-at .ensures .0 in
+    let found = c .before .before .first-no .ensures in
+    c .refused4 .ensures ∙ sym (three (c .before .before) ∙ rw (found-one _ count found (c .before .if4 .taken), found-at _ count found, zero-add))
 
 returns-5 : tie.Need-returns-5
 returns-5 c =
-    let q23 = c .before .before .before in
-    let q22 = q23 .before .before in
-    let q20 = q22 .before .before .before in
-    c .refused5 .ensures
-    ∙ sym (misplaced _ (q20 .if1 .left) (q22 .before .before .two-bytes-at .ensures .0) (q22 .before .if2 .left) (q22 .if3 .left)
-    (q23 .before .first-no .ensures) (q23 .if4 .left) (c .before .before .first-no2 .ensures) (c .before .if5 .taken))
-
-start-of-body-requires : tie.Need-start-of-body-requires
-start-of-body-requires c κs = search needs
-
-refused-requires-6 : tie.Need-refused-requires-6
-refused-requires-6 c κs = search needs
+    let count = c .before .before .before .before .before .before .before .two-bytes-at .ensures .0 in
+    let found = c .before .before .first-no2 .ensures in
+    c .refused5 .ensures ∙ sym (four (c .before .before) ∙ rw (found-one _ count found (c .before .if5 .taken), found-at _ count found, zero-add))
 
 returns-6 : tie.Need-returns-6
 returns-6 c =
-    let q24 = c .before .before .before in
-    let q23 = q24 .before .before in
-    let q22 = q23 .before .before in
-    let q20 = q22 .before .before .before in
-    c .refused6 .ensures
-    ∙ sym (other-end _ (q20 .if1 .left) (q22 .before .before .two-bytes-at .ensures .0) (q22 .before .if2 .left) (q22 .if3 .left)
-    (q23 .before .first-no .ensures) (q23 .if4 .left) (q24 .before .first-no2 .ensures) (q24 .if5 .left) (c .before .before .start-of-body .ensures)
-    (c .before .if6 .taken))
+    let read = c .before .before .before .before .before .before .before .before .before in
+    let end = c .before .before .start-of-body .ensures ∙ ap (startOfBody (read .before .before .before .args .file .now)) (read .two-bytes-at .ensures .0) in
+    c .refused6 .ensures ∙ sym (five (c .before .before) ∙ rw (← end, ne-eqb _ _ (c .before .if6 .taken)))
 
 returns-7 : tie.Need-returns-7
 returns-7 c =
-    let q24 = c .before .before in
-    let q23 = q24 .before .before in
-    let q22 = q23 .before .before in
-    let q20 = q22 .before .before .before in
-    sym (accepted _ (q20 .if1 .left) (q22 .before .before .two-bytes-at .ensures .0) (q22 .before .if2 .left) (q22 .if3 .left)
-    (q23 .before .first-no .ensures) (q23 .if4 .left) (q24 .before .first-no2 .ensures) (q24 .if5 .left) (c .before .start-of-body .ensures) (c .if6 .left))
+    let read = c .before .before .before .before .before .before .before .before in
+    let end = c .before .start-of-body .ensures ∙ ap (startOfBody (read .before .before .before .args .file .now)) (read .two-bytes-at .ensures .0) in
+    sym (five (c .before) ∙ rw (← end, eq-eqb _ _ (c .if6 .left), ← (read .two-bytes-at .ensures .0)))
 
 pub judge-spec : {M : Type 1} → statement M
 judge-spec =
-    tie.close (tie.spec refused-requires returns two-bytes-at-requires refused-requires-2 returns-2 mul-if3 add-if3 refused-requires-3 returns-3
-    first-no-requires refused-requires-4 returns-4 first-no-requires-2 refused-requires-5 returns-5 start-of-body-requires refused-requires-6 returns-6
-    returns-7)
+    tie.close (tie.spec (λ c κs. search needs) returns (λ c κs. search needs) (λ c κs. search needs) returns-2 (λ c. search needs) (λ c. search needs)
+    (λ c κs. search needs) returns-3 (λ c κs. search needs) (λ c κs. search needs) returns-4 (λ c κs. search needs) (λ c κs. search needs) returns-5
+    (λ c κs. search needs) (λ c κs. search needs) returns-6 returns-7)

@@ -7,19 +7,10 @@ use Rattle.collection.proofs.rises.Tie as tie
 returns : tie.Need-returns
 returns c = rises-first (c .before .before .args .file .now) (c .before .before .args .i) (c .if1 .taken)
 
-sub-rule-number : tie.Need-sub-rule-number
-sub-rule-number c = search needs
-
-rule-number-requires : tie.Need-rule-number-requires
-rule-number-requires c κs = search needs
-
-rule-number-requires-2 : tie.Need-rule-number-requires-2
-rule-number-requires-2 c κs = search needs
-
 returns-2 : tie.Need-returns-2
 returns-2 c =
     let a = c .before .before .before .before .args in
     rises-later (a .file .now) (a .i) (c .before .before .if1 .left) (c .before .rule-number .ensures .0) (c .rule-number2 .ensures .0)
 
 pub rises-spec : {M : Type 1} → statement M
-rises-spec = tie.close (tie.spec returns sub-rule-number rule-number-requires rule-number-requires-2 returns-2)
+rises-spec = tie.close (tie.spec returns (λ c. search needs) (λ c κs. search needs) (λ c κs. search needs) returns-2)

@@ -25,5 +25,4 @@ returns-3 c =
     (rw two (run-two (graph (a .n) (a .k) (a .nexts)) (c .before .before .before .successor .ensures .0) (y .0)), y .1)
 
 pub after-spec : {M : Type 1} → statement M
-after-spec =
-    tie.close (tie.spec returns (λ c κs. search needs) returns-2 (λ c κs. search needs) returns-3)
+after-spec = tie.close (tie.spec returns (λ c κs. search needs) returns-2 (λ c κs. search needs) returns-3)

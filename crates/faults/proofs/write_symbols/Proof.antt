@@ -10,9 +10,6 @@ use Rattle.faults.proofs.write_symbols.Tie as tie
 returns : tie.Need-returns
 returns c = rw (c .if1 .taken)
 
-cast-area : tie.Need-cast-area
-cast-area c = omega (arith, c .before .before .before .pre .1 .first-in)
-
 slice-write-area : tie.Need-slice-write-area
 slice-write-area c =
     let start = c .before .before .before in
@@ -20,9 +17,6 @@ slice-write-area c =
 
 returns-2 : tie.Need-returns-2
 returns-2 c = rw (c .if2 .taken)
-
-cast-area-2 : tie.Need-cast-area-2
-cast-area-2 c = omega (arith, c .before .before .before .before .before .before .pre .1 .second-in)
 
 slice-write-area-2 : tie.Need-slice-write-area-2
 slice-write-area-2 c =
@@ -37,15 +31,5 @@ returns-3 c =
 
 pub write-symbols-spec : {M : Type 1} → statement M
 write-symbols-spec =
-    tie.close
-    (tie.spec
-    returns
-    cast-area
-    slice-write-area
-    (λ c. search needs)
-    returns-2
-    cast-area-2
-    (λ c. search needs)
-    slice-write-area-2
-    (λ c. search needs)
-    returns-3)
+    tie.close (tie.spec returns (λ c. search needs) slice-write-area (λ c. search needs) returns-2 (λ c. search needs) (λ c. search needs) slice-write-area-2
+    (λ c. search needs) returns-3)

@@ -12,33 +12,17 @@ use Rattle.immunity.proofs.Columns.{card-asks, card-refuses}
 use Rattle.immunity.proofs.card.Statement.{statement}
 use Rattle.immunity.proofs.card.Tie as tie
 
-slice-aggregate-open : tie.Need-slice-aggregate-open
-slice-aggregate-open c = search needs
-
-open-requires : tie.Need-open-requires
-open-requires c κs = search needs
-
-enum-known-r : tie.Need-enum-known-r
-enum-known-r c = search needs
-
-refused-card-requires : tie.Need-refused-card-requires
-refused-card-requires c κs = search needs
-
-enum-known-t : tie.Need-enum-known-t
-enum-known-t c = search needs
-
 array-share-prefix-marks : tie.Need-array-share-prefix-marks
 array-share-prefix-marks c = marks-lie (opened-yes stateLimit _ _ (c .before .before .before .before .«open» .ensures) (c .before .t .given .1))
 
 slice-aggregate-card-of : tie.Need-slice-aggregate-card-of
-slice-aggregate-card-of c = marks-counted (opened-yes stateLimit _ _ (c .before .before .before .before .before .«open» .ensures) (c .before .before .t .given .1))
-
-next-states-requires : tie.Need-next-states-requires
-next-states-requires c κs = search needs
+slice-aggregate-card-of c =
+    marks-counted (opened-yes stateLimit _ _ (c .before .before .before .before .before .«open» .ensures) (c .before .before .t .given .1))
 
 card-of-requires : tie.Need-card-of-requires
 card-of-requires c κs =
-    table-handed (opened-yes stateLimit _ _ (c .before .before .before .before .before .before .«open» .ensures) (c .before .before .before .t .given .1)) (c .next-states .ensures)
+    table-handed (opened-yes stateLimit _ _ (c .before .before .before .before .before .before .«open» .ensures) (c .before .before .before .t .given .1))
+    (c .next-states .ensures)
 
 returns : tie.Need-returns
 unfolding cardAnswer judgeAnswer
@@ -51,23 +35,13 @@ returns-2 : tie.Need-returns-2
 unfolding cardAnswer judgeAnswer
 returns-2 c =
     let b = c .before .before .before .before .before .before .before .before .before .before .args .body .now in
-    let h = opened-yes stateLimit _ _ (c .before .before .before .before .before .before .before .«open» .ensures) (c .before .before .before .before .t .given .1) in
+    let h = opened-yes stateLimit _ _ (c .before .before .before .before .before .before .before .«open» .ensures)
+    (c .before .before .before .before .t .given .1) in
     let e = h .accepted in
     c .card-of .ensures ∙ ap (cardAsking []) (monitor-handed h (c .before .next-states .ensures))
     ∙ card-asks (tableQuestions stateLimit b) (monitorOf b) (λ values. asks-other (tableQuestions stateLimit b) [] values e)
 
 pub card-spec : {M : Type 1} → statement M
 card-spec =
-    tie.close
-    (tie.spec
-    slice-aggregate-open
-    open-requires
-    enum-known-r
-    refused-card-requires
-    enum-known-t
-    array-share-prefix-marks
-    slice-aggregate-card-of
-    next-states-requires
-    card-of-requires
-    returns
-    returns-2)
+    tie.close (tie.spec (λ c. search needs) (λ c κs. search needs) (λ c. search needs) (λ c κs. search needs) (λ c. search needs) array-share-prefix-marks
+    slice-aggregate-card-of (λ c κs. search needs) card-of-requires returns returns-2)

@@ -9,30 +9,17 @@ use Rattle.immunity.specs.Findings.{witnessTrace, faultQuestions, tableF
 use Rattle.immunity.proofs.examine.Statement.{statement}
 use Rattle.immunity.proofs.examine.Tie as tie
 
-slice-aggregate-open : tie.Need-slice-aggregate-open
-slice-aggregate-open c = search needs
-
-open-requires : tie.Need-open-requires
-open-requires c κs = search needs
-
-enum-known-r : tie.Need-enum-known-r
-enum-known-r c = search needs
-
-enum-known-t : tie.Need-enum-known-t
-enum-known-t c = search needs
-
 array-share-prefix-marks : tie.Need-array-share-prefix-marks
 array-share-prefix-marks c = marks-lie (opened-yes stateLimit _ _ (c .before .before .before .before .«open» .ensures) (c .before .t .given .1))
 
 slice-aggregate-examine-table : tie.Need-slice-aggregate-examine-table
-slice-aggregate-examine-table c = marks-counted (opened-yes stateLimit _ _ (c .before .before .before .before .before .«open» .ensures) (c .before .before .t .given .1))
-
-next-states-requires : tie.Need-next-states-requires
-next-states-requires c κs = search needs
+slice-aggregate-examine-table c =
+    marks-counted (opened-yes stateLimit _ _ (c .before .before .before .before .before .«open» .ensures) (c .before .before .t .given .1))
 
 examine-table-requires : tie.Need-examine-table-requires
 examine-table-requires c κs =
-    table-handed (opened-yes stateLimit _ _ (c .before .before .before .before .before .before .before .«open» .ensures) (c .before .before .before .before .t .given .1)) (c .before .next-states .ensures)
+    table-handed (opened-yes stateLimit _ _ (c .before .before .before .before .before .before .before .«open» .ensures)
+    (c .before .before .before .before .t .given .1)) (c .before .next-states .ensures)
 
 returns : tie.Need-returns
 unfolding faultAnswer
@@ -40,35 +27,24 @@ returns c =
     let a = c .before .before .before .before .before .before .before .before .args in
     let m = monitorOf (a .body .now) in
     let area = a .area .now in
-    refused-writes stateLimit (a .body .now) (faultQuestions (a .set) (a .domain) (firstWitness m (a .domain) (a .set)) (length area)) (tableFigures m (a .domain) (a .set))
+    refused-writes stateLimit (a .body .now) (faultQuestions (a .set) (a .domain) (firstWitness m (a .domain) (a .set)) (length area))
+    (tableFigures m (a .domain) (a .set))
     (faultTrace (a .body .now) (a .set) (a .domain)) area
     (opened-no stateLimit (a .body .now) _ (c .before .before .before .before .«open» .ensures) (c .before .r .given .1))
-
-same-length : tie.Need-same-length
-same-length c = search needs
 
 returns-2 : tie.Need-returns-2
 unfolding faultAnswer
 returns-2 c =
     let a = c .before .before .before .before .before .before .before .before .before .before .before .before .before .before .args in
     let area = a .area .now in
-    let h = opened-yes stateLimit _ _ (c .before .before .before .before .before .before .before .before .before .before .«open» .ensures) (c .before .before .before .before .before .before .before .t .given .1) in
+    let h = opened-yes stateLimit _ _ (c .before .before .before .before .before .before .before .before .before .before .«open» .ensures)
+    (c .before .before .before .before .before .before .before .t .given .1) in
     let e = c .before .before .examine-table .ensures in
-    opened-writes h (c .before .before .before .before .next-states .ensures) (λ m. faultQuestions (a .set) (a .domain) (firstWitness m (a .domain) (a .set)) (length area))
+    opened-writes h (c .before .before .before .before .next-states .ensures)
+    (λ m. faultQuestions (a .set) (a .domain) (firstWitness m (a .domain) (a .set)) (length area))
     (λ m. tableFigures m (a .domain) (a .set)) (λ m. witnessTrace (firstWitness m (a .domain) (a .set))) area (e .0) (e .1)
 
 pub examine-spec : {M : Type 1} → statement M
 examine-spec =
-    tie.close
-    (tie.spec
-    slice-aggregate-open
-    open-requires
-    enum-known-r
-    enum-known-t
-    array-share-prefix-marks
-    slice-aggregate-examine-table
-    next-states-requires
-    examine-table-requires
-    returns
-    same-length
-    returns-2)
+    tie.close (tie.spec (λ c. search needs) (λ c κs. search needs) (λ c. search needs) (λ c. search needs) array-share-prefix-marks
+    slice-aggregate-examine-table (λ c κs. search needs) examine-table-requires returns (λ c. search needs) returns-2)

@@ -9,28 +9,22 @@ use Rattle.immunity.proofs.Tables.{filled-read, filled-count, table-ans
 use Rattle.immunity.proofs.examine_reading.Statement.{statement}
 use Rattle.immunity.proofs.examine_reading.Tie as tie
 
-slice-aggregate-write-readings : tie.Need-slice-aggregate-write-readings
-slice-aggregate-write-readings c = search needs
-
-write-readings-requires : tie.Need-write-readings-requires
-write-readings-requires c κs = search needs
-
-array-share-prefix-outputs : tie.Need-array-share-prefix-outputs
-array-share-prefix-outputs c = search needs
-
 slice-aggregate-read : tie.Need-slice-aggregate-read
 slice-aggregate-read c = filled-count _ _ _ (c .before .before .write-readings .ensures)
 
 distances-requires : tie.Need-distances-requires
-distances-requires c κs = (c .before .before .before .before .before .before .before .pre .rows, sym (filled-count _ _ _ (c .before .before .write-readings .ensures)))
+distances-requires c κs =
+    (c .before .before .before .before .before .before .before .pre .rows, sym (filled-count _ _ _ (c .before .before .write-readings .ensures)))
 
 examine-set-requires : tie.Need-examine-set-requires
 examine-set-requires c κs =
     let p = c .before .before .before .before .before .before .before .before .before .before .pre in
-    record { rows = p .rows; outputs = sym (filled-count _ _ _ (c .before .before .before .before .before .write-readings .ensures)); start-in = p .well-formed .start-in; squared = c .before .before .distances .ensures }
-
-same-length : tie.Need-same-length
-same-length c = search needs
+    record {
+      rows = p .rows;
+      outputs = sym (filled-count _ _ _ (c .before .before .before .before .before .write-readings .ensures));
+      start-in = p .well-formed .start-in;
+      squared = c .before .before .distances .ensures;
+    }
 
 returns : tie.Need-returns
 returns c =
@@ -47,13 +41,5 @@ returns c =
 
 pub examine-reading-spec : {M : Type 1} → statement M
 examine-reading-spec =
-    tie.close
-    (tie.spec
-    slice-aggregate-write-readings
-    write-readings-requires
-    array-share-prefix-outputs
-    slice-aggregate-read
-    distances-requires
-    examine-set-requires
-    same-length
-    returns)
+    tie.close (tie.spec (λ c. search needs) (λ c κs. search needs) (λ c. search needs) slice-aggregate-read distances-requires examine-set-requires
+    (λ c. search needs) returns)

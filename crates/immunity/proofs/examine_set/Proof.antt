@@ -3,81 +3,68 @@ use mathlib.Core.Path.{refl}
 use native.Mathlib.Omega.{arith}
 use lib.ListN.{length, getD}
 use borrow.Author.Needs.{needs}
+use Rattle.pairs.specs.Square.{differing}
 use Rattle.immunity.specs.Findings.{witnessValues}
+use Rattle.immunity.specs.Search.{automatonIn}
+use Rattle.immunity.proofs.Search.{Searched}
 use Rattle.immunity.proofs.Made.{searched}
 use Rattle.immunity.proofs.Answers.{is-number, says-immune, says-no-room, says-vulnerable, immune-keeps, witness-fills}
 use Rattle.immunity.proofs.examine_set.Statement.{statement}
 use Rattle.immunity.proofs.examine_set.Tie as tie
-
-costs-requires : tie.Need-costs-requires
-costs-requires c κs = search needs
 
 relax-requires : tie.Need-relax-requires
 relax-requires c κs =
     let r = c .before .costs .ensures in
     (c .before .before .before .before .before .pre .rows, record { size = r .size; most = λ p l. r .each p l .most })
 
-mul-distance : tie.Need-mul-distance
-mul-distance c = search needs
-
-array-read-distance : tie.Need-array-read-distance
-array-read-distance c = search needs
+seen : (c : tie.After-relax)
+    → (let a = c .before .before .before .before .before .before .args in
+    Searched (automatonIn (a .t) (a .nexts .now)) (differing (a .outputs .now)) (a .set .bits) (a .square .now) (c .before .before .costs .result)
+    (c .relax .last .0))
+seen c = searched _ (c .before .before .before .before .before .before .pre) (c .before .before .costs .ensures) (c .relax .ensures)
 
 returns : tie.Need-returns
 returns c =
     let s = c .before .before .before .before .before .before .before in
-    let p = s .pre in
-    let h = searched (s .args .set .bits) p (c .before .before .before .costs .ensures) (c .before .relax .ensures) in (
-      says-immune h (p .start-in) (λ q. getD (s .args .outputs .now) q 0) (length (s .args .area .now)) (p .rows .states-most) (omega (arith, c .if1 .taken)),
-      immune-keeps h (p .start-in) (s .args .area .now) (p .rows .states-most) (omega (arith, c .if1 .taken)),
+    let h = seen (c .before) in
+    let i = s .pre .start-in in
+    let small = s .pre .rows .states-most in (
+      says-immune h i (λ q. getD (s .args .outputs .now) q 0) (length (s .args .area .now)) small (omega (arith, c .if1 .taken)),
+      immune-keeps h i (s .args .area .now) small (omega (arith, c .if1 .taken)),
     )
 
 returns-2 : tie.Need-returns-2
 returns-2 c =
     let s = c .before .before .before .before .before .before .before .before in
-    let p = s .pre in
-    let h = searched (s .args .set .bits) p (c .before .before .before .before .costs .ensures) (c .before .before .relax .ensures) in
-    let low = is-number h (p .start-in) (c .before .if1 .left) in
-    (says-no-room h (p .start-in) (λ q. getD (s .args .outputs .now) q 0) (length (s .args .area .now)) low (c .if2 .taken), refl)
+    let h = seen (c .before .before) in
+    let low = is-number h (s .pre .start-in) (c .before .if1 .left) in
+    (says-no-room h (s .pre .start-in) (λ q. getD (s .args .outputs .now) q 0) (length (s .args .area .now)) low (c .if2 .taken), refl)
 
 witness-of-requires : tie.Need-witness-of-requires
 witness-of-requires c κs =
-    let s = c .before .before .before .before .before .before .before .before .before .before .before in
-    let p = s .pre in
-    let h = searched (s .args .set .bits) p (c .before .before .before .before .before .before .before .costs .ensures) (c .before .before .before .before .before .relax .ensures) in
+    let r = c .before .before .before .before .before in
+    let p = r .before .before .before .before .before .before .pre in
     record {
       posed = p;
-      costs-are = c .before .before .before .before .before .before .before .costs .ensures;
-      relaxed = c .before .before .before .before .before .relax .ensures;
-      some = is-number h (p .start-in) (c .before .before .before .before .if1 .left);
+      costs-are = seen r .costs-are;
+      relaxed = seen r .relaxed;
+      some = is-number (seen r) (p .start-in) (c .before .before .before .before .if1 .left);
       fits = c .before .before .before .if2 .left;
     }
 
-same-length : tie.Need-same-length
-same-length c = search needs
-
 returns-3 : tie.Need-returns-3
 returns-3 c =
-    let s = c .before .before .before .before .before .before .before .before .before .before .before .before .before .before in
-    let p = s .pre in
-    let h = searched (s .args .set .bits) p (c .before .before .before .before .before .before .before .before .before .before .costs .ensures) (c .before .before .before .before .before .before .before .before .relax .ensures) in
-    let low = is-number h (p .start-in) (c .before .before .before .before .before .before .before .if1 .left) in
+    let r = c .before .before .before .before .before .before .before .before in
+    let s = r .before .before .before .before .before .before in
+    let i = s .pre .start-in in
+    let low = is-number (seen r) i (c .before .before .before .before .before .before .before .if1 .left) in
     let fits = c .before .before .before .before .before .before .if2 .left in
     let w = c .before .before .witness-of in (
-      says-vulnerable h (p .start-in) (λ q. getD (s .args .outputs .now) q 0) (length (s .args .area .now)) low fits (w .ensures .0),
-      witness-fills h (p .start-in) (witnessValues (w .result)) (s .args .area .now) low fits (w .ensures .1),
+      says-vulnerable (seen r) i (λ q. getD (s .args .outputs .now) q 0) (length (s .args .area .now)) low fits (w .ensures .0),
+      witness-fills (seen r) i (witnessValues (w .result)) (s .args .area .now) low fits (w .ensures .1),
     )
 
 pub examine-set-spec : {M : Type 1} → statement M
 examine-set-spec =
-    tie.close
-    (tie.spec
-    costs-requires
-    relax-requires
-    mul-distance
-    array-read-distance
-    returns
-    returns-2
-    witness-of-requires
-    same-length
+    tie.close (tie.spec (λ c κs. search needs) relax-requires (λ c. search needs) (λ c. search needs) returns returns-2 witness-of-requires (λ c. search needs)
     returns-3)

@@ -13,38 +13,19 @@ returns c =
     let l : allFaults < c .before .before .before .before .args .set = omega (arith, c .if1 .taken) in
     (rw (lt-leb _ _ l), refl)
 
-is-reading-requires : tie.Need-is-reading-requires
-is-reading-requires c κs = search needs
-
 returns-2 : tie.Need-returns-2
 returns-2 c =
     let l : c .before .before .before .before .before .before .args .set ≤ allFaults = omega (arith, c .before .before .if1 .left) in
     (rw (le-leb _ _ l, sym (c .before .is-reading .ensures) ∙ not-true _ (c .if2 .taken)), refl)
 
-of-requires : tie.Need-of-requires
-of-requires c κs = search needs
-
-examine-reading-requires : tie.Need-examine-reading-requires
-examine-reading-requires c κs = search needs
-
-same-length : tie.Need-same-length
-same-length c = search needs
-
 returns-3 : tie.Need-returns-3
 returns-3 c =
-    let l : c .before .before .before .before .before .before .before .before .before .before .before .args .set ≤ allFaults = omega (arith, c .before .before .before .before .before .before .before .if1 .left) in
-    let known = sym (c .before .before .before .before .before .before .is-reading .ensures) ∙ not-false _ (c .before .before .before .before .before .if2 .left) in
+    let l : c .before .before .before .before .before .before .before .before .before .before .before .args .set ≤ allFaults = omega
+    (arith, c .before .before .before .before .before .before .before .if1 .left) in
+    let known = sym (c .before .before .before .before .before .before .is-reading .ensures)
+    ∙ not-false _ (c .before .before .before .before .before .if2 .left) in
     let e = c .before .before .examine-reading .ensures in
     rw (le-leb _ _ l, known, ← c .before .before .before .before .of .ensures) e
 
 pub examine-table-spec : {M : Type 1} → statement M
-examine-table-spec =
-    tie.close
-    (tie.spec
-    returns
-    is-reading-requires
-    returns-2
-    of-requires
-    examine-reading-requires
-    same-length
-    returns-3)
+examine-table-spec = tie.close (tie.spec returns (λ c κs. search needs) returns-2 (λ c κs. search needs) (λ c κs. search needs) (λ c. search needs) returns-3)

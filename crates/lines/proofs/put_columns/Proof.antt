@@ -17,48 +17,18 @@ abbrev μ-loop : tie.MeasureT-loop
 loop-holds : tie.Need-loop-holds Inv-loop μ-loop
 loop-holds c = (let a = c .before .args in columns-none (a .t1) (a .buffer .now) (a .at))
 
-mul-column : tie.Need-mul-column Inv-loop μ-loop
-mul-column c = search needs
-
-array-copy-out-column : tie.Need-array-copy-out-column Inv-loop μ-loop
-array-copy-out-column c = search needs
-
-put-distance-requires : tie.Need-put-distance-requires Inv-loop μ-loop
-put-distance-requires c κs =
-    let s = c .before .before .before .before .before in
-    let h = c .before .before .before .loop .inv in
-    omega (arith, s .pre .1, h .room, h .put .same, c .before .before .loop-test .taken)
-
-add-rank : tie.Need-add-rank Inv-loop μ-loop
-add-rank c = search needs
-
-loop-less : tie.Need-loop-less Inv-loop μ-loop
-loop-less c = search needs
-
 loop-again : tie.Need-loop-again Inv-loop μ-loop
 loop-again c =
     let s = c .before .before .before .before .before .before .before .before in
     let l = c .before .before .before .before .before .loop-test .taken in
-    columns-more _ (c .before .before .before .before .before .before .loop .inv) l (take-suc (s .args .t1) (c .before .before .before .before .before .before .loop .rank) _ (omega (arith, l, s .pre .0))) (c .before .before .put-distance .ensures)
-
-same-length : tie.Need-same-length Inv-loop μ-loop
-same-length c = search needs
+    columns-more _ (c .before .before .before .before .before .before .loop .inv) l
+    (take-suc (s .args .t1) (c .before .before .before .before .before .before .loop .rank) _ (omega (arith, l, s .pre .0)))
+    (c .before .before .put-distance .ensures)
 
 returns : tie.Need-returns Inv-loop μ-loop
 returns c = columns-all (c .before .loop .inv) (c .loop-test .left) (c .before .before .before .pre .0)
 
 pub put-columns-spec : {M : Type 1} → statement M
 put-columns-spec =
-    tie.close
-    (tie.spec
-    Inv-loop
-    μ-loop
-    loop-holds
-    mul-column
-    array-copy-out-column
-    put-distance-requires
-    add-rank
-    loop-less
-    loop-again
-    same-length
-    returns)
+    tie.close (tie.spec Inv-loop μ-loop loop-holds (λ c. search needs) (λ c. search needs) (λ c κs. search needs) (λ c. search needs) (λ c. search needs)
+    loop-again (λ c. search needs) returns)

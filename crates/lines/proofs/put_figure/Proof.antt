@@ -5,21 +5,9 @@ use Rattle.lines.proofs.Puts.{then}
 use Rattle.lines.proofs.put_figure.Statement.{statement}
 use Rattle.lines.proofs.put_figure.Tie as tie
 
-slice-aggregate-put : tie.Need-slice-aggregate-put
-slice-aggregate-put c = search needs
-
-put-requires : tie.Need-put-requires
-put-requires c κs = search needs
-
-put-number-requires : tie.Need-put-number-requires
-put-number-requires c κs = search needs
-
-same-length : tie.Need-same-length
-same-length c = search needs
-
 returns : tie.Need-returns
-returns c = (let p = c .before .before .before .before .before .before .put .ensures in let q = c .before .before .put-number .ensures in (then p (q .0), omega (arith, p .ends, q .1)))
+returns c = (let p = c .before .before .before .before .before .before .put .ensures in let q = c .before .before .put-number .ensures in
+    (then p (q .0), omega (arith, p .ends, q .1)))
 
 pub put-figure-spec : {M : Type 1} → statement M
-put-figure-spec =
-    tie.close (tie.spec slice-aggregate-put put-requires put-number-requires same-length returns)
+put-figure-spec = tie.close (tie.spec (λ c. search needs) (λ c κs. search needs) (λ c κs. search needs) (λ c. search needs) returns)

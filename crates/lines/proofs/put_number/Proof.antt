@@ -5,31 +5,13 @@ use borrow.Author.Needs.{needs}
 use Rattle.lines.proofs.put_number.Statement.{statement}
 use Rattle.lines.proofs.put_number.Tie as tie
 
-decimal-requires : tie.Need-decimal-requires
-decimal-requires c κs = search needs
-
-array-share-prefix-digits : tie.Need-array-share-prefix-digits
-array-share-prefix-digits c = search needs
-
-slice-aggregate-put : tie.Need-slice-aggregate-put
-slice-aggregate-put c = search needs
-
 put-requires : tie.Need-put-requires
-put-requires c κs = (let d = c .before .before .decimal .ensures in let l = number-short _ _ _ (d .1 .0) (d .1 .1) (search needs) in omega (arith, l, c .before .before .before .before .before .pre))
-
-same-length : tie.Need-same-length
-same-length c = search needs
+put-requires c κs = (let d = c .before .before .decimal .ensures in let l = number-short _ _ _ (d .1 .0) (d .1 .1) (search needs) in
+    omega (arith, l, c .before .before .before .before .before .pre))
 
 returns : tie.Need-returns
-returns c = (let d = c .before .before .before .before .before .decimal .ensures in number-put _ _ _ (d .1 .0) (d .1 .1) (search needs) (c .before .before .put .ensures))
+returns c = (let d = c .before .before .before .before .before .decimal .ensures in
+    number-put _ _ _ (d .1 .0) (d .1 .1) (search needs) (c .before .before .put .ensures))
 
 pub put-number-spec : {M : Type 1} → statement M
-put-number-spec =
-    tie.close
-    (tie.spec
-    decimal-requires
-    array-share-prefix-digits
-    slice-aggregate-put
-    put-requires
-    same-length
-    returns)
+put-number-spec = tie.close (tie.spec (λ c κs. search needs) (λ c. search needs) (λ c. search needs) put-requires (λ c. search needs) returns)

@@ -6,14 +6,8 @@ use borrow.Author.Needs.{needs}
 use Rattle.monitor.proofs.drawn_marks.Statement.{statement}
 use Rattle.monitor.proofs.drawn_marks.Tie as tie
 
-byte-at-requires : tie.Need-byte-at-requires
-byte-at-requires c κs = search needs
-
-part-requires : tie.Need-part-requires
-part-requires c κs = search needs
-
 returns : tie.Need-returns
 returns c = c .part .ensures ∙ ap (λ (n : ℕ). take n (drop 3 (c .before .before .before .args .body .now))) (c .before .byte-at .ensures .0)
 
 pub drawn-marks-spec : {M : Type 1} → statement M
-drawn-marks-spec = tie.close (tie.spec byte-at-requires part-requires returns)
+drawn-marks-spec = tie.close (tie.spec (λ c κs. search needs) (λ c κs. search needs) returns)

@@ -1,5 +1,5 @@
 -- `first_revoking` meets its contract: the rows before q have no next state that gives up a verdict.
-use Prim.Native.Nat.{_*_, _-_}
+use Prim.Native.Nat.{_+_, _*_, _-_, _≤_}
 use native.Mathlib.Omega.{arith}
 use lib.ListN.{length}
 use borrow.Author.Needs.{needs}
@@ -18,50 +18,22 @@ abbrev μ-loop : tie.MeasureT-loop
 loop-holds : tie.Need-loop-holds Inv-loop μ-loop
 loop-holds c = rows-begin _ _ _
 
-first-revoking-row-requires : tie.Need-first-revoking-row-requires Inv-loop μ-loop
-first-revoking-row-requires c κs = (c .before .before .before .before .pre, c .loop-test .taken)
-
-mul-if1 : tie.Need-mul-if1 Inv-loop μ-loop
-mul-if1 c =
-    let r = c .before .before .before .before .before .pre in
-    omega (arith, rows-most r, row-end r (c .before .loop-test .taken))
-
-add-if1 : tie.Need-add-if1 Inv-loop μ-loop
-add-if1 c =
-    let r = c .before .before .before .before .before .pre in
-    omega (arith, rows-most r, row-end r (c .before .loop-test .taken))
+-- the row judged lies in the next states
+row-in : (c : tie.After-first-revoking-row Inv-loop μ-loop)
+    → (let s = c .before .before .before .before .before in
+    (c .before .before .loop .q * s .args .k + s .args .k ≤ length (s .args .nexts .now)) × (length (s .args .nexts .now) ≤ 1024))
+row-in c = (let r = c .before .before .before .before .before .pre in (row-end r (c .before .loop-test .taken), rows-most r))
 
 returns : tie.Need-returns Inv-loop μ-loop
-returns c =
-    let r = c .before .before .before .before .before .before .pre in
-    rows-stop _ _ (c .before .before .before .loop .inv) (row-end r (c .before .before .loop-test .taken)) (c .before .first-revoking-row .ensures) (c .if1 .taken)
-
-add-q : tie.Need-add-q Inv-loop μ-loop
-add-q c = search needs
-
-loop-less : tie.Need-loop-less Inv-loop μ-loop
-loop-less c = omega (arith, c .before .before .loop-test .taken)
+returns c = rows-stop _ _ (c .before .before .before .loop .inv) (row-in (c .before) .0) (c .before .first-revoking-row .ensures) (c .if1 .taken)
 
 loop-again : tie.Need-loop-again Inv-loop μ-loop
-loop-again c =
-    let r = c .before .before .before .before .before .before .pre in
-    rows-go-on _ _ (c .before .before .before .loop .inv) (row-end r (c .before .before .loop-test .taken)) (c .before .first-revoking-row .ensures) (c .if1 .left)
+loop-again c = rows-go-on _ _ (c .before .before .before .loop .inv) (row-in (c .before) .0) (c .before .first-revoking-row .ensures) (c .if1 .left)
 
 returns-2 : tie.Need-returns-2 Inv-loop μ-loop
 returns-2 c = rows-end _ _ _ (c .before .loop .inv) (c .before .before .before .before .pre .rows-length) (c .loop-test .left)
 
 pub first-revoking-spec : {M : Type 1} → statement M
 first-revoking-spec =
-    tie.close
-    (tie.spec
-    Inv-loop
-    μ-loop
-    loop-holds
-    first-revoking-row-requires
-    mul-if1
-    add-if1
-    returns
-    add-q
-    loop-less
-    loop-again
-    returns-2)
+    tie.close (tie.spec Inv-loop μ-loop loop-holds (λ c κs. search needs) (λ c. omega (arith, row-in c)) (λ c. omega (arith, row-in c)) returns
+    (λ c. search needs) (λ c. search needs) loop-again returns-2)

@@ -1,139 +1,100 @@
--- `judge_rows` meets its contract: each return has its law in Body.
-use mathlib.Core.Path.{sym, ap, _∙_}
+-- `judge_rows` meets its contract: where the marks and then the next states are right, the questions that are left.
+use mathlib.Core.Path.{_≡_, sym, ap, _∙_}
+use mathlib.Core.List.{List, [], _∷_}
+use Prim.Native.Nat.{ℕ}
 use native.Mathlib.Nat.{mul-le-mul}
 use native.Mathlib.Omega.{arith}
 use lib.ListN.{length}
 use borrow.Author.Needs.{needs}
+use borrow.Author.Tests.{eqb-true}
+use Rattle.theory.specs.Answer.{Question, asks}
 use Rattle.theory.specs.Monitor.{stateLimit}
-use Rattle.monitor.proofs.Head.{passed-head}
-use Rattle.monitor.proofs.Body.{marks-length, nexts-length, wrong-mark, wrong-next, wrong-verdict, rows-pass, rows-lent}
+use Rattle.monitor.specs.Questions.{notBelow, question7, question8, rowQuestions}
+use Rattle.monitor.proofs.Head.{Head, passed-head}
+use Rattle.monitor.proofs.Body.{marks-length, nexts-length, less-apart, all-passed, lent-passed, rows-of}
 use Rattle.monitor.proofs.judge_rows.Statement.{statement}
 use Rattle.monitor.proofs.judge_rows.Tie as tie
 
-shared-slice-read-n : tie.Need-shared-slice-read-n
-shared-slice-read-n c =
-    let s = c .before .before in
-    let h = passed-head stateLimit (s .args .body .now) (s .pre) in
-    omega (arith, h .long)
+head : (s : tie.Start) → Head stateLimit (s .args .body .now)
+head s = passed-head stateLimit (s .args .body .now) (s .pre)
 
-cast-n : tie.Need-cast-n
-cast-n c = omega (arith, c .shared-slice-known2 .given 0)
+-- the first questions are answered yes, these are left
+abbrev Left : List ℕ → List Question → Type 0
+Left b questions = asks (rowQuestions b) [] ≡ asks questions []
 
-shared-slice-read-k : tie.Need-shared-slice-read-k
-shared-slice-read-k c =
-    let s = c .before .before .before in
-    let h = passed-head stateLimit (s .args .body .now) (s .pre) in
-    omega (arith, h .long)
+six : (c : tie.After-shared-slice-known4)
+    → (let b = c .before .before .before .before .before .before .before .before .args .body .now in Left b (question7 b ∷ question8 b ∷ []))
+six c =
+    let marks = c .before .before .before .before .drawn-marks .ensures in
+    rw (lent-passed (notBelow 3) marks (c .before .before .first-not-below .ensures) (c .before .if1 .left))
 
-cast-k : tie.Need-cast-k
-cast-k c = omega (arith, c .shared-slice-known3 .given 1)
-
-drawn-marks-requires : tie.Need-drawn-marks-requires
-drawn-marks-requires c κs = search needs
-
-next-states-requires : tie.Need-next-states-requires
-next-states-requires c κs = search needs
-
-first-not-below-requires : tie.Need-first-not-below-requires
-first-not-below-requires c κs = search needs
+seven : (c : tie.After-first-revoking)
+    → (let b = c .before .before .before .before .before .before .before .before .before .before .before .args .body .now in Left b (question8 b ∷ []))
+seven c =
+    let nexts = c .before .before .before .before .before .before .next-states .ensures in
+    six (c .before .before .before) ∙ rw (lent-passed (notBelow _) nexts (c .before .before .first-not-below2 .ensures) (c .before .if2 .left))
 
 add-refused : tie.Need-add-refused
 add-refused c =
-    let s = c .before .before .before .before .before .before .before in
-    let h = passed-head stateLimit (s .args .body .now) (s .pre) in
+    let h = head (c .before .before .before .before .before .before .before) in
     omega (arith, c .if1 .taken, marks-length h, ap length (c .before .before .before .drawn-marks .ensures), h .states-most)
-
-refused-requires : tie.Need-refused-requires
-refused-requires c κs = search needs
 
 returns : tie.Need-returns
 returns c =
-    let b = c .before .before .before .before .before .before .before .before .args .body .now in
-    c .refused .ensures ∙ sym (wrong-mark b (c .before .before .before .before .drawn-marks .ensures) (c .before .before .before .next-states .ensures) (c .before .before .first-not-below .ensures) (c .before .if1 .taken))
+    let marks = c .before .before .before .before .drawn-marks .ensures in
+    c .refused .ensures ∙ sym (rw (← marks, ← (c .before .before .first-not-below .ensures), less-apart (c .before .if1 .taken)))
 
 shared-slice-read-first-not-below : tie.Need-shared-slice-read-first-not-below
-shared-slice-read-first-not-below c =
-    let s = c .before .before .before .before .before .before .before .before in
-    let h = passed-head stateLimit (s .args .body .now) (s .pre) in
-    omega (arith, h .long)
-
-first-not-below-requires-2 : tie.Need-first-not-below-requires-2
-first-not-below-requires-2 c κs = search needs
+shared-slice-read-first-not-below c = omega (arith, head (c .before .before .before .before .before .before .before .before) .long)
 
 add-refused-2 : tie.Need-add-refused-2
-add-refused-2 c =
-    let s = c .before .before .before .before .before .before .before .before .before .before in
-    let h = passed-head stateLimit (s .args .body .now) (s .pre) in
-    omega (arith, h .states-most)
+add-refused-2 c = omega (arith, head (c .before .before .before .before .before .before .before .before .before .before) .states-most)
 
 add-refused-3 : tie.Need-add-refused-3
 add-refused-3 c =
-    let s = c .before .before .before .before .before .before .before .before .before .before in
-    let h = passed-head stateLimit (s .args .body .now) (s .pre) in
-    omega (arith, c .if2 .taken, nexts-length h, ap length (c .before .before .before .before .before .next-states .ensures), h .states-most, mul-le-mul (h .states-most) (h .symbols-most))
-
-refused-requires-2 : tie.Need-refused-requires-2
-refused-requires-2 c κs = search needs
+    let h = head (c .before .before .before .before .before .before .before .before .before .before) in
+    let e = ap length (c .before .before .before .before .before .next-states .ensures) in
+    omega (arith, c .if2 .taken, nexts-length h, e, h .states-most, mul-le-mul (h .states-most) (h .symbols-most))
 
 returns-2 : tie.Need-returns-2
 returns-2 c =
-    let b = c .before .before .before .before .before .before .before .before .before .before .before .args .body .now in
-    c .refused2 .ensures ∙ sym (wrong-next b (c .before .before .before .before .before .before .before .drawn-marks .ensures) (c .before .before .before .before .before .before .next-states .ensures) (c .before .before .before .before .before .first-not-below .ensures) (c .before .before .before .before .if1 .left) (c .before .before .first-not-below2 .ensures) (c .before .if2 .taken))
+    let nexts = c .before .before .before .before .before .before .next-states .ensures in
+    c .refused2 .ensures
+    ∙ sym (six (c .before .before .before) ∙ rw (← nexts, ← (c .before .before .first-not-below2 .ensures), less-apart (c .before .if2 .taken)))
 
 first-revoking-requires : tie.Need-first-revoking-requires
 first-revoking-requires c κs =
-    let s = c .before .before .before .before .before .before .before .before .before .before in
-    let b = s .args .body .now in
-    rows-lent b (c .before .before .before .before .before .before .drawn-marks .ensures) (c .before .before .before .before .before .next-states .ensures) (c .before .before .before .before .first-not-below .ensures) (c .before .before .before .if1 .left) (c .before .first-not-below2 .ensures) (c .if2 .left) (passed-head stateLimit b (s .pre))
+    let h = head (c .before .before .before .before .before .before .before .before .before .before) in
+    let nexts = c .before .before .before .before .before .next-states .ensures in
+    let right = lent-passed (notBelow _) nexts (c .before .first-not-below2 .ensures) (c .if2 .left) in
+    rw (c .before .before .before .before .before .before .drawn-marks .ensures, nexts, marks-length h) (rows-of h (eqb-true _ _ right))
 
 add-refused-4 : tie.Need-add-refused-4
-add-refused-4 c =
-    let s = c .before .before .before .before .before .before .before .before .before .before .before .before in
-    let h = passed-head stateLimit (s .args .body .now) (s .pre) in
-    omega (arith, h .states-most)
+add-refused-4 c = omega (arith, head (c .before .before .before .before .before .before .before .before .before .before .before .before) .states-most)
 
 add-refused-5 : tie.Need-add-refused-5
 add-refused-5 c =
-    let s = c .before .before .before .before .before .before .before .before .before .before .before .before in
-    let h = passed-head stateLimit (s .args .body .now) (s .pre) in
-    omega (arith, c .if3 .taken, nexts-length h, ap length (c .before .before .before .before .before .before .before .next-states .ensures), h .states-most, mul-le-mul (h .states-most) (h .symbols-most))
-
-refused-requires-3 : tie.Need-refused-requires-3
-refused-requires-3 c κs = search needs
+    let h = head (c .before .before .before .before .before .before .before .before .before .before .before .before) in
+    let e = ap length (c .before .before .before .before .before .before .before .next-states .ensures) in
+    omega (arith, c .if3 .taken, nexts-length h, e, h .states-most, mul-le-mul (h .states-most) (h .symbols-most))
 
 returns-3 : tie.Need-returns-3
 returns-3 c =
-    let b = c .before .before .before .before .before .before .before .before .before .before .before .before .before .args .body .now in
-    c .refused3 .ensures ∙ sym (wrong-verdict b (c .before .before .before .before .before .before .before .before .before .drawn-marks .ensures) (c .before .before .before .before .before .before .before .before .next-states .ensures) (c .before .before .before .before .before .before .before .first-not-below .ensures) (c .before .before .before .before .before .before .if1 .left) (c .before .before .before .before .first-not-below2 .ensures) (c .before .before .before .if2 .left) (c .before .before .first-revoking .ensures) (c .before .if3 .taken))
+    let nexts = c .before .before .before .before .before .before .before .before .next-states .ensures in
+    let marks = c .before .before .before .before .before .before .before .before .before .drawn-marks .ensures in
+    c .refused3 .ensures
+    ∙ sym (seven (c .before .before) ∙ rw (← marks, ← nexts, ← (c .before .before .first-revoking .ensures), less-apart (c .before .if3 .taken)))
 
 returns-4 : tie.Need-returns-4
 returns-4 c =
-    let b = c .before .before .before .before .before .before .before .before .before .before .before .before .args .body .now in
-    sym (rows-pass b (c .before .before .before .before .before .before .before .before .drawn-marks .ensures) (c .before .before .before .before .before .before .before .next-states .ensures) (c .before .before .before .before .before .before .first-not-below .ensures) (c .before .before .before .before .before .if1 .left) (c .before .before .before .first-not-below2 .ensures) (c .before .before .if2 .left) (c .before .first-revoking .ensures) (c .if3 .left))
+    let nexts = c .before .before .before .before .before .before .before .next-states .ensures in
+    let marks = c .before .before .before .before .before .before .before .before .drawn-marks .ensures in
+    let found = c .before .first-revoking .ensures in
+    sym (seven (c .before) ∙ rw (← marks, ← nexts, ← found, all-passed _ found (c .if3 .left)))
 
 pub judge-rows-spec : {M : Type 1} → statement M
 judge-rows-spec =
-    tie.close
-    (tie.spec
-    shared-slice-read-n
-    cast-n
-    shared-slice-read-k
-    cast-k
-    drawn-marks-requires
-    next-states-requires
-    first-not-below-requires
-    add-refused
-    refused-requires
-    returns
-    shared-slice-read-first-not-below
-    first-not-below-requires-2
-    add-refused-2
-    add-refused-3
-    refused-requires-2
-    returns-2
-    first-revoking-requires
-    add-refused-4
-    add-refused-5
-    refused-requires-3
-    returns-3
-    returns-4)
+    tie.close (tie.spec (λ c. omega (arith, head (c .before .before) .long)) (λ c. omega (arith, c .shared-slice-known2 .given 0))
+    (λ c. omega (arith, head (c .before .before .before) .long)) (λ c. omega (arith, c .shared-slice-known3 .given 1)) (λ c κs. search needs)
+    (λ c κs. search needs) (λ c κs. search needs) add-refused (λ c κs. search needs) returns shared-slice-read-first-not-below (λ c κs. search needs)
+    add-refused-2 add-refused-3 (λ c κs. search needs) returns-2 first-revoking-requires add-refused-4 add-refused-5 (λ c κs. search needs) returns-3 returns-4)

@@ -23,5 +23,4 @@ returns : tie.Need-returns
 returns c = (refl, next-of-rows (c .before .pre .0) .next-in _ _ (c .before .pre .1) (c .before .pre .2))
 
 pub successor-spec : {M : Type 1} → statement M
-successor-spec =
-    tie.close (tie.spec mul-result add-result shared-slice-read-result cast-result returns)
+successor-spec = tie.close (tie.spec mul-result add-result shared-slice-read-result cast-result returns)

@@ -7,12 +7,6 @@ use Rattle.pairs.proofs.Rounds.{squared-same}
 use Rattle.pairs.proofs.distances.Statement.{statement}
 use Rattle.pairs.proofs.distances.Tie as tie
 
-blank-requires : tie.Need-blank-requires
-blank-requires c κs = search needs
-
-enter-outputs-requires : tie.Need-enter-outputs-requires
-enter-outputs-requires c κs = search needs
-
 refine-requires : tie.Need-refine-requires
 refine-requires c κs =
     let pre = c .before .before .before .before .before .before .pre in
@@ -25,4 +19,4 @@ returns c =
     (c .refine .ensures .0)
 
 pub distances-spec : {M : Type 1} → statement M
-distances-spec = tie.close (tie.spec blank-requires enter-outputs-requires refine-requires returns)
+distances-spec = tie.close (tie.spec (λ c κs. search needs) (λ c κs. search needs) refine-requires returns)

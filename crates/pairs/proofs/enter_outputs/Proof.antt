@@ -19,18 +19,6 @@ abbrev μ-loop : tie.MeasureT-loop
 loop-holds : tie.Need-loop-holds Inv-loop μ-loop
 loop-holds c = (search needs, entered-none (c .before .pre .0) (c .before .pre .1))
 
-enter-row-requires : tie.Need-enter-row-requires Inv-loop μ-loop
-enter-row-requires c κs = search needs
-
-add-p : tie.Need-add-p Inv-loop μ-loop
-add-p c = search needs
-
-loop-less : tie.Need-loop-less Inv-loop μ-loop
-loop-less c = search needs
-
-loop-again : tie.Need-loop-again Inv-loop μ-loop
-loop-again c = (search needs, c .enter-row .ensures)
-
 returns : tie.Need-returns Inv-loop μ-loop
 returns c =
     let s = c .before .before .before in
@@ -38,4 +26,4 @@ returns c =
     subst (λ (i : ℕ). Entered (s .args .outputs .now) (i * stateLimit) (at .square)) (le-antisymm (at .inv .0) (c .loop-test .left)) (at .inv .1)
 
 pub enter-outputs-spec : {M : Type 1} → statement M
-enter-outputs-spec = tie.close (tie.spec Inv-loop μ-loop loop-holds enter-row-requires add-p loop-less loop-again returns)
+enter-outputs-spec = tie.close (tie.spec Inv-loop μ-loop loop-holds (λ c κs. search needs) (λ c. search needs) (λ c. search needs) (λ c. search needs) returns)

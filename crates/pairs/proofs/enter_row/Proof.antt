@@ -18,15 +18,6 @@ abbrev μ-loop : tie.MeasureT-loop
 loop-holds : tie.Need-loop-holds Inv-loop μ-loop
 loop-holds c = (search needs, rw (add-zero _) (c .before .pre .2))
 
-enter-pair-requires : tie.Need-enter-pair-requires Inv-loop μ-loop
-enter-pair-requires c κs = search needs
-
-add-q : tie.Need-add-q Inv-loop μ-loop
-add-q c = search needs
-
-loop-less : tie.Need-loop-less Inv-loop μ-loop
-loop-less c = search needs
-
 loop-again : tie.Need-loop-again Inv-loop μ-loop
 loop-again c =
     let s = c .before .before .before .before .before in
@@ -40,4 +31,4 @@ returns c =
     entered-row (s .pre .0) (s .args .p) (at .q) (at .inv .1) (at .inv .0) (c .loop-test .left)
 
 pub enter-row-spec : {M : Type 1} → statement M
-enter-row-spec = tie.close (tie.spec Inv-loop μ-loop loop-holds enter-pair-requires add-q loop-less loop-again returns)
+enter-row-spec = tie.close (tie.spec Inv-loop μ-loop loop-holds (λ c κs. search needs) (λ c. search needs) (λ c. search needs) loop-again returns)

@@ -18,36 +18,12 @@ abbrev μ-loop : tie.MeasureT-loop
 loop-holds : tie.Need-loop-holds Inv-loop μ-loop
 loop-holds c = scan-begins _ _ _
 
-successor-requires : tie.Need-successor-requires Inv-loop μ-loop
-successor-requires c κs = search needs
-
-successor-requires-2 : tie.Need-successor-requires-2 Inv-loop μ-loop
-successor-requires-2 c κs = search needs
-
-mul-if1 : tie.Need-mul-if1 Inv-loop μ-loop
-mul-if1 c = search needs
-
-add-if1 : tie.Need-add-if1 Inv-loop μ-loop
-add-if1 c = search needs
-
-mul-if1-2 : tie.Need-mul-if1-2 Inv-loop μ-loop
-mul-if1-2 c = search needs
-
-element-copy-out-if1 : tie.Need-element-copy-out-if1 Inv-loop μ-loop
-element-copy-out-if1 c = search needs
-
 returns : tie.Need-returns Inv-loop μ-loop
 returns c =
     let a = c .before .before .before .before .before .before .before .args in
     scan-some (c .before .before .before .before .before .loop .inv) (c .before .before .before .before .loop-test .taken)
     (within-as (automatonOf (a .n) (a .k) (a .nexts .now)) (a .square .now) (a .r) (a .p) (a .q) (c .before .before .before .successor .ensures .0)
     (c .before .before .successor2 .ensures .0) (le-leb _ _ (c .if1 .taken)))
-
-add-a : tie.Need-add-a Inv-loop μ-loop
-add-a c = search needs
-
-loop-less : tie.Need-loop-less Inv-loop μ-loop
-loop-less c = search needs
 
 loop-again : tie.Need-loop-again Inv-loop μ-loop
 loop-again c =
@@ -61,5 +37,5 @@ returns-2 c = scan-none (c .before .loop .inv) (c .loop-test .left)
 
 pub leads-within-spec : {M : Type 1} → statement M
 leads-within-spec =
-    tie.close (tie.spec Inv-loop μ-loop loop-holds successor-requires successor-requires-2 mul-if1 add-if1 mul-if1-2 element-copy-out-if1 returns add-a
-    loop-less loop-again returns-2)
+    tie.close (tie.spec Inv-loop μ-loop loop-holds (λ c κs. search needs) (λ c κs. search needs) (λ c. search needs) (λ c. search needs) (λ c. search needs)
+    (λ c. search needs) returns (λ c. search needs) (λ c. search needs) loop-again returns-2)

@@ -19,17 +19,6 @@ abbrev μ-loop : tie.MeasureT-loop
 loop-holds : tie.Need-loop-holds Inv-loop μ-loop
 loop-holds c = scan-begins _ _ _
 
-successor-requires : tie.Need-successor-requires Inv-loop μ-loop
-successor-requires c κs = (c .before .before .before .pre .0, c .before .before .before .pre .1, c .loop-test .taken)
-
-successor-requires-2 : tie.Need-successor-requires-2 Inv-loop μ-loop
-successor-requires-2 c κs = (c .before .before .before .before .pre .0, c .before .before .before .before .pre .2, c .before .loop-test .taken)
-
-entry-at-requires : tie.Need-entry-at-requires Inv-loop μ-loop
-entry-at-requires c κs =
-    let most = c .before .before .before .before .before .pre .0 .states-most in
-    (omega (arith, c .before .successor .ensures .1, most), omega (arith, c .successor2 .ensures .1, most))
-
 returns : tie.Need-returns Inv-loop μ-loop
 returns c =
     let o = c .before .before .before .before .before .before .before .args in
@@ -37,12 +26,6 @@ returns c =
     (leads-as (automatonOf (o .n) (o .k) (now (o .nexts))) (now (o .square)) (o .distance) (o .p) (o .q) _
     (c .before .before .before .successor .ensures .0) (c .before .before .successor2 .ensures .0) (c .before .entry-at .ensures .0)
     (eq-eqb _ _ (c .if1 .taken)))
-
-add-a : tie.Need-add-a Inv-loop μ-loop
-add-a c = search needs
-
-loop-less : tie.Need-loop-less Inv-loop μ-loop
-loop-less c = search needs
 
 loop-again : tie.Need-loop-again Inv-loop μ-loop
 loop-again c =
@@ -57,4 +40,5 @@ returns-2 c = scan-ends (c .before .loop .inv) (omega arith)
 
 pub nearer-by-spec : {M : Type 1} → statement M
 nearer-by-spec =
-    tie.close (tie.spec Inv-loop μ-loop loop-holds successor-requires successor-requires-2 entry-at-requires returns add-a loop-less loop-again returns-2)
+    tie.close (tie.spec Inv-loop μ-loop loop-holds (λ c κs. search needs) (λ c κs. search needs) (λ c κs. search needs) returns (λ c. search needs)
+    (λ c. search needs) loop-again returns-2)

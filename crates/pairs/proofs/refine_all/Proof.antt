@@ -20,15 +20,6 @@ abbrev μ-loop : tie.MeasureT-loop
 loop-holds : tie.Need-loop-holds Inv-loop μ-loop
 loop-holds c = (search needs, search needs, λ ends w. w)
 
-refine-row-requires : tie.Need-refine-row-requires Inv-loop μ-loop
-refine-row-requires c κs = search needs
-
-add-p : tie.Need-add-p Inv-loop μ-loop
-add-p c = search needs
-
-loop-less : tie.Need-loop-less Inv-loop μ-loop
-loop-less c = search needs
-
 loop-again : tie.Need-loop-again Inv-loop μ-loop
 loop-again c = (search needs, c .refine-row .ensures .0, λ ends w. c .refine-row .ensures .1 ends (c .before .before .before .loop .inv .2 ends w))
 
@@ -40,4 +31,4 @@ returns c =
     (le-antisymm (at .inv .0) (c .loop-test .left)) (at .inv .2 ends w)
 
 pub refine-all-spec : {M : Type 1} → statement M
-refine-all-spec = tie.close (tie.spec Inv-loop μ-loop loop-holds refine-row-requires add-p loop-less loop-again returns)
+refine-all-spec = tie.close (tie.spec Inv-loop μ-loop loop-holds (λ c κs. search needs) (λ c. search needs) (λ c. search needs) loop-again returns)

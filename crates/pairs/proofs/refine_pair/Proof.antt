@@ -5,32 +5,11 @@ use borrow.Author.Tests.{eq-eqb, ne-eqb}
 use Rattle.pairs.proofs.refine_pair.Statement.{statement}
 use Rattle.pairs.proofs.refine_pair.Tie as tie
 
-entry-at-requires : tie.Need-entry-at-requires
-entry-at-requires c κs = search needs
-
 returns : tie.Need-returns
 returns c =
     let h = c .before .entry-at .ensures .0 in
     let e = ne-eqb _ _ (c .if1 .taken) in
     (rw (← h, e), refl)
-
-leads-within-requires : tie.Need-leads-within-requires
-leads-within-requires c κs = search needs
-
-add-square : tie.Need-add-square
-add-square c = search needs
-
-mul-square : tie.Need-mul-square
-mul-square c = search needs
-
-add-square-2 : tie.Need-add-square-2
-add-square-2 c = search needs
-
-mul-square-2 : tie.Need-mul-square-2
-mul-square-2 c = search needs
-
-element-write-square : tie.Need-element-write-square
-element-write-square c = search needs
 
 returns-2 : tie.Need-returns-2
 returns-2 c =
@@ -48,5 +27,5 @@ returns-3 c =
 
 pub refine-pair-spec : {M : Type 1} → statement M
 refine-pair-spec =
-    tie.close (tie.spec entry-at-requires returns leads-within-requires add-square mul-square add-square-2 mul-square-2 element-write-square returns-2
-    returns-3)
+    tie.close (tie.spec (λ c κs. search needs) returns (λ c κs. search needs) (λ c. search needs) (λ c. search needs) (λ c. search needs) (λ c. search needs)
+    (λ c. search needs) returns-2 returns-3)

@@ -23,20 +23,6 @@ abbrev μ-loop : tie.MeasureT-loop
 loop-holds : tie.Need-loop-holds Inv-loop μ-loop
 loop-holds c = (search needs, search needs, λ ends w. rw (add-zero _) w)
 
-refine-pair-requires : tie.Need-refine-pair-requires Inv-loop μ-loop
-refine-pair-requires c κs = search needs
-
-add-count : tie.Need-add-count Inv-loop μ-loop
-add-count c =
-    let pre = c .before .before .before .before .before .before .pre in
-    omega (arith, c .before .before .before .before .loop .inv .1, pre .0 .states-most, pre .2)
-
-add-q : tie.Need-add-q Inv-loop μ-loop
-add-q c = search needs
-
-loop-less : tie.Need-loop-less Inv-loop μ-loop
-loop-less c = search needs
-
 loop-again : tie.Need-loop-again Inv-loop μ-loop
 loop-again c =
     let s = c .before .before .before .before .before .before in
@@ -58,4 +44,5 @@ returns c =
     )
 
 pub refine-row-spec : {M : Type 1} → statement M
-refine-row-spec = tie.close (tie.spec Inv-loop μ-loop loop-holds refine-pair-requires add-count add-q loop-less loop-again returns)
+refine-row-spec =
+    tie.close (tie.spec Inv-loop μ-loop loop-holds (λ c κs. search needs) (λ c. search needs) (λ c. search needs) (λ c. search needs) loop-again returns)

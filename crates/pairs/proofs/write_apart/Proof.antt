@@ -13,31 +13,15 @@ Inv-loop square nexts n k p q area₀ at x₀ y₀ i₀ left₀ area x y i left 
 abbrev μ-loop : tie.MeasureT-loop
 μ-loop square nexts n k p q area₀ at x₀ y₀ i₀ left₀ area x y i left = left
 
-entry-at-requires : tie.Need-entry-at-requires Inv-loop μ-loop
-entry-at-requires c κs =
-    let s = c .before .before .pre in
-    (omega (arith, s .0 .states-most, s .2), omega (arith, s .0 .states-most, s .3))
-
 loop-holds : tie.Need-loop-holds Inv-loop μ-loop
 loop-holds c =
     let s = c .before .before .before .pre in
     walk-begins (s .2) (s .3) (c .entry-at .ensures .0) (s .4) (s .5)
 
-sub-left : tie.Need-sub-left Inv-loop μ-loop
-sub-left c = search needs
-
-nearer-by-requires : tie.Need-nearer-by-requires Inv-loop μ-loop
-nearer-by-requires c κs =
-    let w = c .before .loop .inv in
-    (c .before .before .before .before .before .pre .0, w .first-in, w .second-in)
-
 cast-area : tie.Need-cast-area Inv-loop μ-loop
 cast-area c =
     let s = c .before .before .before .before .before .before .pre in
     omega (arith, s .0 .symbols-most, walk-symbol (c .before .before .loop .inv) (s .1) (c .before .loop-test .taken) (c .nearer-by .ensures))
-
-slice-write-area : tie.Need-slice-write-area Inv-loop μ-loop
-slice-write-area c = search needs
 
 successor-requires : tie.Need-successor-requires Inv-loop μ-loop
 successor-requires c κs =
@@ -62,9 +46,6 @@ add-i c =
       c .before .before .before .before .before .before .before .before .good .1 .1 .1 .1 .1 .1 .0 .0,
     )
 
-loop-less : tie.Need-loop-less Inv-loop μ-loop
-loop-less c = search needs
-
 loop-again : tie.Need-loop-again Inv-loop μ-loop
 loop-again c =
     let s = c .before .before .before .before .before .before .before .before .pre in
@@ -82,5 +63,5 @@ returns c =
 
 pub write-apart-spec : {M : Type 1} → statement M
 write-apart-spec =
-    tie.close (tie.spec Inv-loop μ-loop entry-at-requires loop-holds sub-left nearer-by-requires cast-area slice-write-area successor-requires
-    successor-requires-2 add-i loop-less loop-again same-length returns)
+    tie.close (tie.spec Inv-loop μ-loop (λ c κs. search needs) loop-holds (λ c. search needs) (λ c κs. search needs) cast-area (λ c. search needs)
+    successor-requires successor-requires-2 add-i (λ c. search needs) loop-again same-length returns)

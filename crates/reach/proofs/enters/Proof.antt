@@ -19,22 +19,10 @@ abbrev μ-loop : tie.MeasureT-loop
 loop-holds : tie.Need-loop-holds Inv-loop μ-loop
 loop-holds c = scan-begins _ _ _
 
-successor-requires : tie.Need-successor-requires Inv-loop μ-loop
-successor-requires c κs = search needs
-
-has-requires : tie.Need-has-requires Inv-loop μ-loop
-has-requires c κs = search needs
-
 returns : tie.Need-returns Inv-loop μ-loop
 returns c =
     scan-some (c .before .before .before .before .loop .inv) (c .before .before .before .loop-test .taken)
     (rw (← c .before .before .successor .ensures .0) (sym (c .before .has .ensures) ∙ c .if1 .taken))
-
-add-a : tie.Need-add-a Inv-loop μ-loop
-add-a c = search needs
-
-loop-less : tie.Need-loop-less Inv-loop μ-loop
-loop-less c = search needs
 
 loop-again : tie.Need-loop-again Inv-loop μ-loop
 loop-again c =
@@ -45,4 +33,6 @@ returns-2 : tie.Need-returns-2 Inv-loop μ-loop
 returns-2 c = scan-none (c .before .loop .inv) (c .loop-test .left)
 
 pub enters-spec : {M : Type 1} → statement M
-enters-spec = tie.close (tie.spec Inv-loop μ-loop loop-holds successor-requires has-requires returns add-a loop-less loop-again returns-2)
+enters-spec =
+    tie.close (tie.spec Inv-loop μ-loop loop-holds (λ c κs. search needs) (λ c κs. search needs) returns (λ c. search needs) (λ c. search needs) loop-again
+    returns-2)

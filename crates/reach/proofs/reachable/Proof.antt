@@ -18,15 +18,6 @@ Inv-loop nexts n k start seen₀ expanded₀ seen expanded = Expanding (automato
 abbrev μ-loop : tie.MeasureT-loop
 μ-loop nexts n k start seen₀ expanded₀ seen expanded = stateLimit - count stateLimit (member expanded)
 
-empty-requires : tie.Need-empty-requires Inv-loop μ-loop
-empty-requires c κs = search needs
-
-with-requires : tie.Need-with-requires Inv-loop μ-loop
-with-requires c κs = search needs
-
-empty-requires-2 : tie.Need-empty-requires-2 Inv-loop μ-loop
-empty-requires-2 c κs = search needs
-
 loop-holds : tie.Need-loop-holds Inv-loop μ-loop
 loop-holds c =
     let a = c .before .before .before .before .args in
@@ -37,12 +28,6 @@ loop-holds c =
     expand-first (automatonOf (a .n) (a .k) (a .nexts .now)) stateLimit (a .start) (member (none .result)) (member (seen .result)) (member (done .result))
     (lt-of-lt-of-le (pre .1) (pre .0 .states-most)) (none .ensures) (seen .ensures) (done .ensures)
 
-minus-requires : tie.Need-minus-requires Inv-loop μ-loop
-minus-requires c κs = search needs
-
-lowest-requires : tie.Need-lowest-requires Inv-loop μ-loop
-lowest-requires c κs = search needs
-
 returns : tie.Need-returns Inv-loop μ-loop
 returns c =
     let pre = c .before .before .before .before .before .before .before .before .pre in
@@ -51,15 +36,6 @@ returns c =
     let all = expand-last (c .before .before .before .loop .inv) stateLimit (pre .0 .states-most) (member (left .result)) (left .ensures)
     (low .result) (low .ensures) (next-of-rows (pre .0)) (pre .1) (c .if1 .taken) in
     record { at = all }
-
-with-requires-2 : tie.Need-with-requires-2 Inv-loop μ-loop
-with-requires-2 c κs = search needs
-
-successors-requires : tie.Need-successors-requires Inv-loop μ-loop
-successors-requires c κs = search needs
-
-union-requires : tie.Need-union-requires Inv-loop μ-loop
-union-requires c κs = search needs
 
 loop-less : tie.Need-loop-less Inv-loop μ-loop
 loop-less c =
@@ -83,5 +59,5 @@ loop-again c =
 
 pub reachable-spec : {M : Type 1} → statement M
 reachable-spec =
-    tie.close (tie.spec Inv-loop μ-loop empty-requires with-requires empty-requires-2 loop-holds minus-requires lowest-requires returns with-requires-2
-    successors-requires union-requires loop-less loop-again)
+    tie.close (tie.spec Inv-loop μ-loop (λ c κs. search needs) (λ c κs. search needs) (λ c κs. search needs) loop-holds (λ c κs. search needs)
+    (λ c κs. search needs) returns (λ c κs. search needs) (λ c κs. search needs) (λ c κs. search needs) loop-less loop-again)

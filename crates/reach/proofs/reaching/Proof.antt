@@ -22,15 +22,6 @@ loop-holds c =
     let a = c .before .args in
     widening-first (automatonOf (a .n) (a .k) (a .nexts .now)) (member (a .targets))
 
-widen-all-requires : tie.Need-widen-all-requires Inv-loop μ-loop
-widen-all-requires c κs = search needs
-
-count-requires : tie.Need-count-requires Inv-loop μ-loop
-count-requires c κs = search needs
-
-count-requires-2 : tie.Need-count-requires-2 Inv-loop μ-loop
-count-requires-2 c κs = search needs
-
 returns : tie.Need-returns Inv-loop μ-loop
 returns c =
     let pre = c .before .before .before .before .before .before .pre in
@@ -52,4 +43,5 @@ loop-again c =
     (member (wide .result)) (wide .ensures)
 
 pub reaching-spec : {M : Type 1} → statement M
-reaching-spec = tie.close (tie.spec Inv-loop μ-loop loop-holds widen-all-requires count-requires count-requires-2 returns loop-less loop-again)
+reaching-spec =
+    tie.close (tie.spec Inv-loop μ-loop loop-holds (λ c κs. search needs) (λ c κs. search needs) (λ c κs. search needs) returns loop-less loop-again)

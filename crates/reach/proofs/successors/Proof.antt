@@ -18,24 +18,9 @@ Inv-loop nexts n k q set₀ a₀ set a = (a ≤ k) × ((p : ℕ) → member set 
 abbrev μ-loop : tie.MeasureT-loop
 μ-loop nexts n k q set₀ a₀ set a = k - a
 
-empty-requires : tie.Need-empty-requires Inv-loop μ-loop
-empty-requires c κs = search needs
-
 loop-holds : tie.Need-loop-holds Inv-loop μ-loop
 unfolding any
 loop-holds c = (search needs, c .empty .ensures)
-
-successor-requires : tie.Need-successor-requires Inv-loop μ-loop
-successor-requires c κs = search needs
-
-with-requires : tie.Need-with-requires Inv-loop μ-loop
-with-requires c κs = search needs
-
-add-a : tie.Need-add-a Inv-loop μ-loop
-add-a c = search needs
-
-loop-less : tie.Need-loop-less Inv-loop μ-loop
-loop-less c = search needs
 
 loop-again : tie.Need-loop-again Inv-loop μ-loop
 loop-again c =
@@ -55,4 +40,6 @@ returns c =
     λ p. at .inv .1 p ∙ any-end (leadsTo (automatonOf (a .n) (a .k) (a .nexts .now)) (a .q) p) (at .inv .0) (c .loop-test .left)
 
 pub successors-spec : {M : Type 1} → statement M
-successors-spec = tie.close (tie.spec Inv-loop μ-loop empty-requires loop-holds successor-requires with-requires add-a loop-less loop-again returns)
+successors-spec =
+    tie.close (tie.spec Inv-loop μ-loop (λ c κs. search needs) loop-holds (λ c κs. search needs) (λ c κs. search needs) (λ c. search needs) (λ c. search needs)
+    loop-again returns)

@@ -8,19 +8,10 @@ use Rattle.reach.proofs.Steps.{widen-old, widen-new, widen-none}
 use Rattle.reach.proofs.widen.Statement.{statement}
 use Rattle.reach.proofs.widen.Tie as tie
 
-has-requires : tie.Need-has-requires
-has-requires c κs = search needs
-
 returns : tie.Need-returns
 returns c =
     let a = c .before .before .before .args in
     widen-old (automatonOf (a .n) (a .k) (a .nexts .now)) (member (a .set)) (a .q) (c .before .has .ensures) (c .if1 .taken)
-
-enters-requires : tie.Need-enters-requires
-enters-requires c κs = search needs
-
-with-requires : tie.Need-with-requires
-with-requires c κs = search needs
 
 returns-2 : tie.Need-returns-2
 returns-2 c =
@@ -36,4 +27,4 @@ returns-3 c =
     widen-none (automatonOf (a .n) (a .k) (a .nexts .now)) (member (a .set)) (a .q) (c .before .enters .ensures) (c .if2 .left)
 
 pub widen-spec : {M : Type 1} → statement M
-widen-spec = tie.close (tie.spec has-requires returns enters-requires with-requires returns-2 returns-3)
+widen-spec = tie.close (tie.spec (λ c κs. search needs) returns (λ c κs. search needs) (λ c κs. search needs) returns-2 returns-3)

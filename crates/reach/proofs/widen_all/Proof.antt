@@ -20,15 +20,6 @@ loop-holds : tie.Need-loop-holds Inv-loop μ-loop
 unfolding spread
 loop-holds c = (search needs, λ p. refl)
 
-widen-requires : tie.Need-widen-requires Inv-loop μ-loop
-widen-requires c κs = search needs
-
-add-q : tie.Need-add-q Inv-loop μ-loop
-add-q c = search needs
-
-loop-less : tie.Need-loop-less Inv-loop μ-loop
-loop-less c = search needs
-
 loop-again : tie.Need-loop-again Inv-loop μ-loop
 loop-again c =
     let a = c .before .before .before .before .args in
@@ -45,4 +36,4 @@ returns c =
     λ p. at .inv .1 p ∙ ap (λ (i : ℕ). spread (automatonOf (a .n) (a .k) (a .nexts .now)) (member (a .set)) i p) (le-antisymm (at .inv .0) (c .loop-test .left))
 
 pub widen-all-spec : {M : Type 1} → statement M
-widen-all-spec = tie.close (tie.spec Inv-loop μ-loop loop-holds widen-requires add-q loop-less loop-again returns)
+widen-all-spec = tie.close (tie.spec Inv-loop μ-loop loop-holds (λ c κs. search needs) (λ c. search needs) (λ c. search needs) loop-again returns)

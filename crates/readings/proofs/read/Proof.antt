@@ -6,20 +6,11 @@ use Rattle.readings.proofs.Traces.{reads-mark, reads-class}
 use Rattle.readings.proofs.read.Statement.{statement}
 use Rattle.readings.proofs.read.Tie as tie
 
-shared-slice-read-result : tie.Need-shared-slice-read-result
-shared-slice-read-result c = search needs
-
 cast-result : tie.Need-cast-result
 cast-result c = omega (arith, c .shared-slice-known3 .given (c .before .before .before .before .args .q))
 
 returns : tie.Need-returns
 returns c = (let a = c .before .before .before .before .args in reads-mark (monitorIn (a .t) (a .marks) (a .nexts)) (a .domain) (a .q) (c .before .if1 .taken))
-
-class-of-requires : tie.Need-class-of-requires
-class-of-requires c κs = search needs
-
-cast-result-2 : tie.Need-cast-result-2
-cast-result-2 c = search needs
 
 returns-2 : tie.Need-returns-2
 returns-2 c =
@@ -27,12 +18,4 @@ returns-2 c =
     reads-class (monitorIn (a .t) (a .marks) (a .nexts)) (a .domain) (a .q) (c .before .if1 .left) (c .class-of .ensures)
 
 pub read-spec : {M : Type 1} → statement M
-read-spec =
-    tie.close
-    (tie.spec
-    shared-slice-read-result
-    cast-result
-    returns
-    class-of-requires
-    cast-result-2
-    returns-2)
+read-spec = tie.close (tie.spec (λ c. search needs) cast-result returns (λ c κs. search needs) (λ c. search needs) returns-2)

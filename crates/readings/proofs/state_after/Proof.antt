@@ -20,22 +20,16 @@ abbrev μ-loop : tie.MeasureT-loop
 loop-holds : tie.Need-loop-holds Inv-loop μ-loop
 loop-holds c = (c .before .before .pre .1, refl)
 
-shared-slice-read-successor : tie.Need-shared-slice-read-successor Inv-loop μ-loop
-shared-slice-read-successor c = search needs
-
 cast-successor : tie.Need-cast-successor Inv-loop μ-loop
 cast-successor c = omega (arith, c .shared-slice-known3 .given (c .before .before .loop .i))
 
 successor-requires : tie.Need-successor-requires Inv-loop μ-loop
 successor-requires c κs =
-    let start = c .before .before .before .before .before in
-    (start .pre .0, c .before .before .loop .inv .0, all-below (start .args .k) (start .args .symbols .now) (start .pre .2) (c .before .before .loop .i) (c .before .loop-test .taken))
-
-add-i : tie.Need-add-i Inv-loop μ-loop
-add-i c = search needs
-
-loop-less : tie.Need-loop-less Inv-loop μ-loop
-loop-less c = search needs
+    let start = c .before .before .before .before .before in (
+      start .pre .0,
+      c .before .before .loop .inv .0,
+      all-below (start .args .k) (start .args .symbols .now) (start .pre .2) (c .before .before .loop .i) (c .before .loop-test .taken),
+    )
 
 loop-again : tie.Need-loop-again Inv-loop μ-loop
 loop-again c =
@@ -52,15 +46,5 @@ returns c =
 
 pub state-after-spec : {M : Type 1} → statement M
 state-after-spec =
-    tie.close
-    (tie.spec
-    Inv-loop
-    μ-loop
-    loop-holds
-    shared-slice-read-successor
-    cast-successor
-    successor-requires
-    add-i
-    loop-less
-    loop-again
+    tie.close (tie.spec Inv-loop μ-loop loop-holds (λ c. search needs) cast-successor successor-requires (λ c. search needs) (λ c. search needs) loop-again
     returns)

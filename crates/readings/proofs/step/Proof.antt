@@ -8,26 +8,12 @@ use Rattle.readings.specs.Readings.{stepQuestions, stepFigures, stepAnsw
 use Rattle.readings.proofs.step.Statement.{statement}
 use Rattle.readings.proofs.step.Tie as tie
 
-slice-aggregate-open : tie.Need-slice-aggregate-open
-slice-aggregate-open c = search needs
-
-open-requires : tie.Need-open-requires
-open-requires c κs = search needs
-
-enum-known-r : tie.Need-enum-known-r
-enum-known-r c = search needs
-
-enum-known-t : tie.Need-enum-known-t
-enum-known-t c = search needs
-
 array-share-prefix-marks : tie.Need-array-share-prefix-marks
 array-share-prefix-marks c = marks-lie (opened-yes stateLimit _ _ (c .before .before .before .before .«open» .ensures) (c .before .t .given .1))
 
 slice-aggregate-step-table : tie.Need-slice-aggregate-step-table
-slice-aggregate-step-table c = marks-counted (opened-yes stateLimit _ _ (c .before .before .before .before .before .«open» .ensures) (c .before .before .t .given .1))
-
-next-states-requires : tie.Need-next-states-requires
-next-states-requires c κs = search needs
+slice-aggregate-step-table c =
+    marks-counted (opened-yes stateLimit _ _ (c .before .before .before .before .before .«open» .ensures) (c .before .before .t .given .1))
 
 step-table-requires : tie.Need-step-table-requires
 step-table-requires c κs =
@@ -46,20 +32,12 @@ returns-2 : tie.Need-returns-2
 unfolding stepAnswer
 returns-2 c =
     let a = c .before .before .before .before .before .before .before .before .before .before .args in
-    let h = opened-yes stateLimit _ _ (c .before .before .before .before .before .before .before .«open» .ensures) (c .before .before .before .before .t .given .1) in
-    c .step-table .ensures ∙ opened-asks h (c .before .next-states .ensures) (stepQuestions (a .domain) (a .state) (a .symbol)) (stepFigures (a .domain) (a .state) (a .symbol))
+    let h = opened-yes stateLimit _ _ (c .before .before .before .before .before .before .before .«open» .ensures)
+    (c .before .before .before .before .t .given .1) in
+    c .step-table .ensures ∙ opened-asks h (c .before .next-states .ensures) (stepQuestions (a .domain) (a .state) (a .symbol))
+    (stepFigures (a .domain) (a .state) (a .symbol))
 
 pub step-spec : {M : Type 1} → statement M
 step-spec =
-    tie.close
-    (tie.spec
-    slice-aggregate-open
-    open-requires
-    enum-known-r
-    enum-known-t
-    array-share-prefix-marks
-    slice-aggregate-step-table
-    next-states-requires
-    step-table-requires
-    returns
-    returns-2)
+    tie.close (tie.spec (λ c. search needs) (λ c κs. search needs) (λ c. search needs) (λ c. search needs) array-share-prefix-marks slice-aggregate-step-table
+    (λ c κs. search needs) step-table-requires returns returns-2)

@@ -11,9 +11,6 @@ use Rattle.readings.proofs.Traces.{reads-at}
 use Rattle.readings.proofs.step_table.Statement.{statement}
 use Rattle.readings.proofs.step_table.Tie as tie
 
-is-reading-requires : tie.Need-is-reading-requires
-is-reading-requires c κs = search needs
-
 returns : tie.Need-returns
 returns c = rw (sym (c .before .is-reading .ensures) ∙ not-true _ (c .if1 .taken))
 
@@ -26,29 +23,15 @@ returns-3 c =
     let known = sym (c .before .before .before .before .before .is-reading .ensures) ∙ not-false _ (c .before .before .before .before .if1 .left) in
     rw (known, lt-ltb _ _ (c .before .before .if2 .left), le-leb _ _ (c .if3 .taken))
 
-successor-requires : tie.Need-successor-requires
-successor-requires c κs = search needs
-
-read-requires : tie.Need-read-requires
-read-requires c κs = search needs
-
 returns-4 : tie.Need-returns-4
 unfolding first
 returns-4 c =
     let a = c .before .before .before .before .before .before .before .before .before .before .args in
     let to = c .before .successor .ensures .0 in
-    let known = sym (c .before .before .before .before .before .before .before .is-reading .ensures) ∙ not-false _ (c .before .before .before .before .before .before .if1 .left) in
+    let known = sym (c .before .before .before .before .before .before .before .is-reading .ensures)
+    ∙ not-false _ (c .before .before .before .before .before .before .if1 .left) in
     rw (known, lt-ltb _ _ (c .before .before .before .before .if2 .left), lt-leb _ _ (c .before .before .if3 .left))
     (ap₂ (λ (x y : ℕ). answered (x ∷ y ∷ [])) to (reads-at (monitorIn (a .t) (a .marks) (a .nexts)) (a .domain) to (c .read .ensures)))
 
 pub step-table-spec : {M : Type 1} → statement M
-step-table-spec =
-    tie.close
-    (tie.spec
-    is-reading-requires
-    returns
-    returns-2
-    returns-3
-    successor-requires
-    read-requires
-    returns-4)
+step-table-spec = tie.close (tie.spec (λ c κs. search needs) returns returns-2 returns-3 (λ c κs. search needs) (λ c κs. search needs) returns-4)

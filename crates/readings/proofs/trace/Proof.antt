@@ -8,26 +8,12 @@ use Rattle.readings.specs.Readings.{traceQuestions, traceFigures, traceA
 use Rattle.readings.proofs.trace.Statement.{statement}
 use Rattle.readings.proofs.trace.Tie as tie
 
-slice-aggregate-open : tie.Need-slice-aggregate-open
-slice-aggregate-open c = search needs
-
-open-requires : tie.Need-open-requires
-open-requires c κs = search needs
-
-enum-known-r : tie.Need-enum-known-r
-enum-known-r c = search needs
-
-enum-known-t : tie.Need-enum-known-t
-enum-known-t c = search needs
-
 array-share-prefix-marks : tie.Need-array-share-prefix-marks
 array-share-prefix-marks c = marks-lie (opened-yes stateLimit _ _ (c .before .before .before .before .«open» .ensures) (c .before .t .given .1))
 
 slice-aggregate-trace-table : tie.Need-slice-aggregate-trace-table
-slice-aggregate-trace-table c = marks-counted (opened-yes stateLimit _ _ (c .before .before .before .before .before .«open» .ensures) (c .before .before .t .given .1))
-
-next-states-requires : tie.Need-next-states-requires
-next-states-requires c κs = search needs
+slice-aggregate-trace-table c =
+    marks-counted (opened-yes stateLimit _ _ (c .before .before .before .before .before .«open» .ensures) (c .before .before .t .given .1))
 
 trace-table-requires : tie.Need-trace-table-requires
 trace-table-requires c κs =
@@ -46,20 +32,12 @@ returns-2 : tie.Need-returns-2
 unfolding traceAnswer
 returns-2 c =
     let a = c .before .before .before .before .before .before .before .before .before .before .before .args in
-    let h = opened-yes stateLimit _ _ (c .before .before .before .before .before .before .before .«open» .ensures) (c .before .before .before .before .t .given .1) in
-    c .trace-table .ensures ∙ opened-asks h (c .before .next-states .ensures) (traceQuestions (a .domain) (a .symbols .now)) (traceFigures (a .domain) (a .symbols .now))
+    let h = opened-yes stateLimit _ _ (c .before .before .before .before .before .before .before .«open» .ensures)
+    (c .before .before .before .before .t .given .1) in
+    c .trace-table .ensures ∙ opened-asks h (c .before .next-states .ensures) (traceQuestions (a .domain) (a .symbols .now))
+    (traceFigures (a .domain) (a .symbols .now))
 
 pub trace-spec : {M : Type 1} → statement M
 trace-spec =
-    tie.close
-    (tie.spec
-    slice-aggregate-open
-    open-requires
-    enum-known-r
-    enum-known-t
-    array-share-prefix-marks
-    slice-aggregate-trace-table
-    next-states-requires
-    trace-table-requires
-    returns
-    returns-2)
+    tie.close (tie.spec (λ c. search needs) (λ c κs. search needs) (λ c. search needs) (λ c. search needs) array-share-prefix-marks slice-aggregate-trace-table
+    (λ c κs. search needs) trace-table-requires returns returns-2)

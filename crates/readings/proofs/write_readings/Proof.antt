@@ -12,12 +12,6 @@ use Rattle.readings.proofs.Traces.{reads-mark, reads-class}
 use Rattle.readings.proofs.write_readings.Statement.{statement}
 use Rattle.readings.proofs.write_readings.Tie as tie
 
-copy-requires : tie.Need-copy-requires
-copy-requires c κs = search needs
-
-same-length : tie.Need-same-length
-same-length c = search needs
-
 returns : tie.Need-returns
 returns c =
     let start = c .before .before .before .before .before .before .before .before in
@@ -25,14 +19,9 @@ returns c =
     let m = monitorIn (a .t) (a .marks) (a .nexts) in
     let l = start .pre .0 .marks-length in
     c .before .before .copy .ensures .1
-    ∙ ap (λ (front : List ℕ). front ++ drop (length (a .marks .now)) (a .area .now)) (sym (values-front (a .marks .now) (length (a .marks .now)) (le-refl (length (a .marks .now)))))
+    ∙ ap (λ (front : List ℕ). front ++ drop (length (a .marks .now)) (a .area .now))
+    (sym (values-front (a .marks .now) (length (a .marks .now)) (le-refl (length (a .marks .now)))))
     ∙ filled-same (m .verdict) (reading m (a .domain)) (a .area .now) l (λ q _. reads-mark m (a .domain) q (c .before .before .before .before .if1 .taken))
-
-write-all-classes-requires : tie.Need-write-all-classes-requires
-write-all-classes-requires c κs = search needs
-
-same-length-2 : tie.Need-same-length-2
-same-length-2 c = search needs
 
 returns-2 : tie.Need-returns-2
 returns-2 c =
@@ -42,6 +31,4 @@ returns-2 c =
     ∙ filled-same (class m) (reading m (a .domain)) (a .area .now) refl (λ q _. reads-class m (a .domain) q (c .before .before .before .before .if1 .left) refl)
 
 pub write-readings-spec : {M : Type 1} → statement M
-write-readings-spec =
-    tie.close
-    (tie.spec copy-requires same-length returns write-all-classes-requires same-length-2 returns-2)
+write-readings-spec = tie.close (tie.spec (λ c κs. search needs) (λ c. search needs) returns (λ c κs. search needs) (λ c. search needs) returns-2)

@@ -20,24 +20,6 @@ loop-holds : tie.Need-loop-holds Inv-loop μ-loop
 unfolding least
 loop-holds c = (search needs, search needs)
 
-successor-requires : tie.Need-successor-requires Inv-loop μ-loop
-successor-requires c κs = search needs
-
-mul-least-of : tie.Need-mul-least-of Inv-loop μ-loop
-mul-least-of c = search needs
-
-element-copy-out-least-of : tie.Need-element-copy-out-least-of Inv-loop μ-loop
-element-copy-out-least-of c = search needs
-
-least-of-requires : tie.Need-least-of-requires Inv-loop μ-loop
-least-of-requires c κs = search needs
-
-add-a : tie.Need-add-a Inv-loop μ-loop
-add-a c = search needs
-
-loop-less : tie.Need-loop-less Inv-loop μ-loop
-loop-less c = search needs
-
 loop-again : tie.Need-loop-again Inv-loop μ-loop
 loop-again c =
     let a = c .before .before .before .before .before .before .args in
@@ -56,5 +38,5 @@ returns c =
 
 pub least-after-spec : {M : Type 1} → statement M
 least-after-spec =
-    tie.close (tie.spec Inv-loop μ-loop loop-holds successor-requires mul-least-of element-copy-out-least-of least-of-requires add-a loop-less loop-again
-    returns)
+    tie.close (tie.spec Inv-loop μ-loop loop-holds (λ c κs. search needs) (λ c. search needs) (λ c. search needs) (λ c κs. search needs) (λ c. search needs)
+    (λ c. search needs) loop-again returns)

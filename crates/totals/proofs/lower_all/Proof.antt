@@ -20,20 +20,11 @@ abbrev μ-loop : tie.MeasureT-loop
 loop-holds : tie.Need-loop-holds Inv-loop μ-loop
 loop-holds c = (search needs, search needs, lowering-begins (c .before .pre .1))
 
-lower-requires : tie.Need-lower-requires Inv-loop μ-loop
-lower-requires c κs = search needs
-
 add-changed : tie.Need-add-changed Inv-loop μ-loop
 add-changed c =
     let a = c .before .before .before .before .before .args in
     let at = c .before .before .before .loop in
     omega (arith, lowered-most (lowers (automatonOf (a .n) (a .k) (a .nexts .now)) (at .totals) (at .p)) (c .lower .ensures .0))
-
-add-p : tie.Need-add-p Inv-loop μ-loop
-add-p c = search needs
-
-loop-less : tie.Need-loop-less Inv-loop μ-loop
-loop-less c = search needs
 
 loop-again : tie.Need-loop-again Inv-loop μ-loop
 loop-again c =
@@ -55,4 +46,4 @@ returns c =
     (le-antisymm (at .inv .0) (c .loop-test .left)) (at .inv .2)
 
 pub lower-all-spec : {M : Type 1} → statement M
-lower-all-spec = tie.close (tie.spec Inv-loop μ-loop loop-holds lower-requires add-changed add-p loop-less loop-again returns)
+lower-all-spec = tie.close (tie.spec Inv-loop μ-loop loop-holds (λ c κs. search needs) add-changed (λ c. search needs) (λ c. search needs) loop-again returns)

@@ -13,29 +13,14 @@ Inv-loop totals costs nexts n k start area₀ p₀ i₀ left₀ area p i left = 
 abbrev μ-loop : tie.MeasureT-loop
 μ-loop totals costs nexts n k start area₀ p₀ i₀ left₀ area p i left = left
 
-mul-left : tie.Need-mul-left Inv-loop μ-loop
-mul-left c = search needs
-
-element-copy-out-left : tie.Need-element-copy-out-left Inv-loop μ-loop
-element-copy-out-left c = search needs
-
 loop-holds : tie.Need-loop-holds Inv-loop μ-loop
 loop-holds c =
     let a = c .before .before .before .args in
     let pre = c .before .before .before .pre in
     walk-begins (automatonOf (a .n) (a .k) (a .nexts .now)) (a .totals .now) (a .costs .now) (pre .2) (pre .3)
 
-mul-if1 : tie.Need-mul-if1 Inv-loop μ-loop
-mul-if1 c = search needs
-
-element-copy-out-if1 : tie.Need-element-copy-out-if1 Inv-loop μ-loop
-element-copy-out-if1 c = search needs
-
 sub-left : tie.Need-sub-left Inv-loop μ-loop
 sub-left c = walk-left (c .before .before .loop .inv) (c .before .before .before .before .before .before .pre .1) (c .if1 .taken)
-
-onward-by-requires : tie.Need-onward-by-requires Inv-loop μ-loop
-onward-by-requires c κs = search needs
 
 cast-area : tie.Need-cast-area Inv-loop μ-loop
 cast-area c =
@@ -54,9 +39,6 @@ successor-requires c κs =
     let inv = c .before .before .before .loop .inv in
     (pre .0, inv .inside, walk-symbol inv (pre .1) (c .before .if1 .taken) (c .onward-by .ensures))
 
-add-i : tie.Need-add-i Inv-loop μ-loop
-add-i c = omega (arith, c .before .before .before .before .loop .inv .total, c .before .before .before .before .before .before .before .before .pre .3)
-
 loop-less : tie.Need-loop-less Inv-loop μ-loop
 loop-less c =
     omega (
@@ -71,9 +53,6 @@ loop-again c =
     walk-goes-on (c .before .before .before .before .loop .inv) (pre .1) (c .before .before .if1 .taken) (c .before .onward-by .ensures) (next-of-rows (pre .0))
     (c .successor .ensures .0)
 
-same-length : tie.Need-same-length Inv-loop μ-loop
-same-length c = c .before .before .loop .inv .size
-
 returns : tie.Need-returns Inv-loop μ-loop
 returns c =
     let w = c .before .before .loop .inv in
@@ -82,5 +61,5 @@ returns c =
 
 pub write-before-spec : {M : Type 1} → statement M
 write-before-spec =
-    tie.close (tie.spec Inv-loop μ-loop mul-left element-copy-out-left loop-holds mul-if1 element-copy-out-if1 sub-left onward-by-requires cast-area
-    slice-write-area successor-requires add-i loop-less loop-again same-length returns)
+    tie.close (tie.spec Inv-loop μ-loop (λ c. search needs) (λ c. search needs) loop-holds (λ c. search needs) (λ c. search needs) sub-left
+    (λ c κs. search needs) cast-area slice-write-area successor-requires (λ c. search needs) loop-less loop-again (λ c. search needs) returns)

@@ -7,9 +7,6 @@ use Rattle.theory.proofs.Bits.{bit-read, bit-high}
 use Rattle.state_set.proofs.StateSet.has.Statement.{statement}
 use Rattle.state_set.proofs.StateSet.has.Tie as tie
 
-shr-result : tie.Need-shr-result
-shr-result c = search needs
-
 returns : tie.Need-returns
 unfolding member
 returns c = bit-read (c .before .before .args .self .bits) (c .before .before .args .q)
@@ -19,4 +16,4 @@ unfolding member
 returns-2 c = sym (bit-high 64 (c .before .args .self .bits) (c .before .args .q) (omega arith) (c .if1 .left))
 
 pub has-spec : {M : Type 1} → statement M
-has-spec = tie.close (tie.spec shr-result returns returns-2)
+has-spec = tie.close (tie.spec (λ c. search needs) returns returns-2)

@@ -5,9 +5,6 @@ use Rattle.theory.proofs.Bits.{bit-with, bit-with-past}
 use Rattle.state_set.proofs.StateSet.with.Statement.{statement}
 use Rattle.state_set.proofs.StateSet.with.Tie as tie
 
-shl-self : tie.Need-shl-self
-shl-self c = search needs
-
 returns : tie.Need-returns
 unfolding member
 returns c = bit-with 64 (c .before .before .args .self .bits) (c .before .before .args .q) (c .before .if1 .taken)
@@ -17,4 +14,4 @@ unfolding member
 returns-2 c = bit-with-past 64 (c .before .args .self .bits) (c .before .args .q) (c .if1 .left)
 
 pub with-spec : {M : Type 1} → statement M
-with-spec = tie.close (tie.spec shl-self returns returns-2)
+with-spec = tie.close (tie.spec (λ c. search needs) returns returns-2)
