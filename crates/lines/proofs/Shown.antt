@@ -22,7 +22,8 @@ use Rattle.immunity.specs.declared.Column.{Column}
 use Rattle.immunity.specs.declared.Finding.{Finding}
 use Rattle.immunity.specs.declared.Summary.{Summary}
 use Rattle.immunity.specs.declared.LinkCard.{LinkCard}
-use Rattle.immunity.specs.Findings.{witnessFigures, tableFigures, finding, summaryFigures, CardAnswer, cardAsking, cardAnswer, found, summarised, carded}
+use Rattle.immunity.specs.Findings.{witnessFigures, tableFigures, finding, found}
+use Rattle.immunity.specs.Findings.{summaryFigures, columnFigures, CardAnswer, cardAsking, cardAnswer, summarised, carded}
 use Rattle.immunity.proofs.Columns.{card-asks}
 use Rattle.lines.specs.Text.{ascii, decimal}
 use Rattle.lines.specs.Line.{distanceText, distanceTexts, refusalLine, ruleLine, lineAnswer, findingText, columnTexts, shownLine, Put}
@@ -65,7 +66,9 @@ texts-append (x ∷ xs) ys = rw (texts-append xs ys)
 distance-texts : (m : Monitor) (n : ℕ) → answerTexts (each n (λ c. answered (columnFigures c m) ∷ [])) ≡ each n (λ c. distanceText (distance m 3 (2 ^ c)) ∷ [])
 unfolding answerTexts each
 distance-texts m zero = refl
-distance-texts m (suc n) = texts-append (each n (λ c. answered (columnFigures c m) ∷ [])) (answered (columnFigures n m) ∷ []) ∙ rw (distance-texts m n, distance-text m 3 (2 ^ n))
+distance-texts m (suc n) =
+    texts-append (each n (λ c. answered (columnFigures c m) ∷ [])) (answered (columnFigures n m) ∷ [])
+    ∙ rw (distance-texts m n, distance-text m 3 (2 ^ n))
 
 found-length : (columns : List Column) → length columns ≡ length (found columns)
 found-length [] = refl

@@ -54,5 +54,7 @@ returns-3 c = reads-all (c .before .loop .inv) (omega (arith, c .before .before 
 
 pub read-decimal-spec : {M : Type 1} → statement M
 read-decimal-spec =
-    tie.close (tie.spec Inv-loop μ-loop returns loop-holds (λ c. search needs) (λ c κs. search needs) returns-2 (λ c. search needs) sub-digit cast-digit
-    (λ c. search needs) add-least-of (λ c κs. search needs) (λ c. search needs) (λ c. search needs) loop-again returns-3)
+    tie.close (tie.spec
+    Inv-loop μ-loop returns loop-holds (λ c. search needs) (λ c κs. search needs) returns-2 (λ c. search needs)
+    sub-digit cast-digit (λ c. search needs) add-least-of (λ c κs. search needs) (λ c. search needs) (λ c. search needs)
+    loop-again returns-3)

@@ -57,21 +57,6 @@ returns-2 c = search needs
 
 pub read-messages-spec : {M : Type 1} → statement M
 read-messages-spec =
-    tie.close
-    (tie.spec
-    Inv-loop
-    μ-loop
-    loop-holds
-    add-number-at
-    number-at-requires
-    enum-known-message
-    enum-told
-    same-length
-    returns
-    message-byte-requires
-    slice-write-area
-    add-i
-    loop-less
-    loop-again
-    same-length-2
-    returns-2)
+    tie.close (tie.spec
+    Inv-loop μ-loop loop-holds add-number-at number-at-requires enum-known-message enum-told same-length returns
+    message-byte-requires slice-write-area add-i loop-less loop-again same-length-2 returns-2)

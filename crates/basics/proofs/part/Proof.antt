@@ -9,5 +9,6 @@ returns c = part-lent _ _ _ (c .before .before .least-of .ensures) (c .before .l
 
 pub part-spec : {M : Type 1} → statement M
 part-spec =
-    tie.close (tie.spec (λ c κs. search needs) (λ c. search needs) (λ c κs. search needs) (λ c. search needs) (λ c. search needs) (λ c. search needs)
-    (λ c. search needs) returns)
+    tie.close (tie.spec
+    (λ c κs. search needs) (λ c. search needs) (λ c κs. search needs) (λ c. search needs) (λ c. search needs)
+    (λ c. search needs) (λ c. search needs) returns)

@@ -12,4 +12,6 @@ returns c =
     c .class-from .ensures ∙ ap₂ (classFrom (getD (a .marks .now) (a .q) 0)) (c .before .before .has .ensures) (c .before .has2 .ensures)
 
 pub class-by-spec : {M : Type 1} → statement M
-class-by-spec = tie.close (tie.spec (λ c. search needs) (λ c κs. search needs) (λ c κs. search needs) (λ c κs. search needs) returns)
+class-by-spec =
+    tie.close (tie.spec
+    (λ c. search needs) (λ c κs. search needs) (λ c κs. search needs) (λ c κs. search needs) returns)

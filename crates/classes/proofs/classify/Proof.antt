@@ -42,5 +42,6 @@ returns-2 c =
 
 pub classify-spec : {M : Type 1} → statement M
 classify-spec =
-    tie.close (tie.spec (λ c. search needs) (λ c κs. search needs) (λ c. search needs) (λ c. search needs) array-share-prefix-marks
+    tie.close (tie.spec
+    (λ c. search needs) (λ c κs. search needs) (λ c. search needs) (λ c. search needs) array-share-prefix-marks
     slice-aggregate-classify-table (λ c κs. search needs) classify-table-requires returns (λ c. search needs) returns-2)

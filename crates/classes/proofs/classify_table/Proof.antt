@@ -33,5 +33,6 @@ returns-2 c =
 
 pub classify-table-spec : {M : Type 1} → statement M
 classify-table-spec =
-    tie.close (tie.spec returns (λ c κs. search needs) (λ c κs. search needs) (λ c κs. search needs) (λ c κs. search needs) (λ c κs. search needs)
-    (λ c. search needs) returns-2)
+    tie.close (tie.spec
+    returns (λ c κs. search needs) (λ c κs. search needs) (λ c κs. search needs) (λ c κs. search needs)
+    (λ c κs. search needs) (λ c. search needs) returns-2)

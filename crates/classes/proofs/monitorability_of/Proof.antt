@@ -11,4 +11,6 @@ returns c =
     c .monitorability-by .ensures ∙ monitorability-is (c .before .before .before .before .before .pre) (o .0) (o .1) (c .before .reachable .ensures)
 
 pub monitorability-of-spec : {M : Type 1} → statement M
-monitorability-of-spec = tie.close (tie.spec (λ c κs. search needs) (λ c κs. search needs) (λ c κs. search needs) returns)
+monitorability-of-spec =
+    tie.close (tie.spec
+    (λ c κs. search needs) (λ c κs. search needs) (λ c κs. search needs) returns)

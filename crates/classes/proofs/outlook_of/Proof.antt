@@ -14,4 +14,6 @@ returns c =
     )
 
 pub outlook-of-spec : {M : Type 1} → statement M
-outlook-of-spec = tie.close (tie.spec (λ c κs. search needs) (λ c κs. search needs) (λ c κs. search needs) (λ c κs. search needs) returns)
+outlook-of-spec =
+    tie.close (tie.spec
+    (λ c κs. search needs) (λ c κs. search needs) (λ c κs. search needs) (λ c κs. search needs) returns)

@@ -9,4 +9,6 @@ returns-6 : tie.Need-returns-6
 returns-6 c = weak-rest (c .before .args .class) (omega (arith, c .match .rest))
 
 pub weak-of-spec : {M : Type 1} → statement M
-weak-of-spec = tie.close (tie.spec (λ c. search needs) (λ c. search needs) (λ c. search needs) (λ c. search needs) (λ c. search needs) returns-6)
+weak-of-spec =
+    tie.close (tie.spec
+    (λ c. search needs) (λ c. search needs) (λ c. search needs) (λ c. search needs) (λ c. search needs) returns-6)

@@ -53,5 +53,6 @@ returns c =
 
 pub write-classes-spec : {M : Type 1} → statement M
 write-classes-spec =
-    tie.close (tie.spec Inv-loop μ-loop loop-holds (λ c κs. search needs) slice-write-area (λ c. search needs) (λ c. search needs) loop-again same-length
-    returns)
+    tie.close (tie.spec
+    Inv-loop μ-loop loop-holds (λ c κs. search needs) slice-write-area (λ c. search needs) (λ c. search needs)
+    loop-again same-length returns)

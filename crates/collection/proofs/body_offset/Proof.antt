@@ -17,4 +17,6 @@ returns c =
     (four-is (bytes .result .now) (low .0) (high .0) ∙ ap (λ (l : List ℕ). numberAt 4 l 0) (bytes .ensures), omega (arith, low .1, high .1))
 
 pub body-offset-spec : {M : Type 1} → statement M
-body-offset-spec = tie.close (tie.spec (λ c κs. search needs) (λ c κs. search needs) (λ c κs. search needs) (λ c. search needs) (λ c. search needs) returns)
+body-offset-spec =
+    tie.close (tie.spec
+    (λ c κs. search needs) (λ c κs. search needs) (λ c κs. search needs) (λ c. search needs) (λ c. search needs) returns)

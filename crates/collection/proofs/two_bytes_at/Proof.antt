@@ -13,4 +13,6 @@ returns c =
     (two-bytes-are (a .bytes .now) (a .at) (low .0) (high .0), omega (arith, low .1, high .1))
 
 pub two-bytes-at-spec : {M : Type 1} → statement M
-two-bytes-at-spec = tie.close (tie.spec (λ c κs. search needs) (λ c. search needs) (λ c κs. search needs) (λ c. search needs) (λ c. search needs) returns)
+two-bytes-at-spec =
+    tie.close (tie.spec
+    (λ c κs. search needs) (λ c. search needs) (λ c κs. search needs) (λ c. search needs) (λ c. search needs) returns)

@@ -45,5 +45,6 @@ returns c = least-ends (c .before .loop .inv) (omega (arith, c .loop-test .left,
 
 pub cost-from-spec : {M : Type 1} → statement M
 cost-from-spec =
-    tie.close (tie.spec Inv-loop μ-loop (λ c κs. search needs) loop-holds (λ c κs. search needs) cost-of-requires (λ c κs. search needs) (λ c. search needs)
-    (λ c. search needs) loop-again returns)
+    tie.close (tie.spec
+    Inv-loop μ-loop (λ c κs. search needs) loop-holds (λ c κs. search needs) cost-of-requires (λ c κs. search needs)
+    (λ c. search needs) (λ c. search needs) loop-again returns)

@@ -18,4 +18,7 @@ returns c =
     (count-is (a .fault .sent) (start .pre .1 .1 .sent-in .count-most)) (c .before .before .entry-at .ensures .0)
 
 pub cost-of-spec : {M : Type 1} → statement M
-cost-of-spec = tie.close (tie.spec (λ c κs. search needs) (λ c κs. search needs) (λ c κs. search needs) (λ c. search needs) (λ c κs. search needs) returns)
+cost-of-spec =
+    tie.close (tie.spec
+    (λ c κs. search needs) (λ c κs. search needs) (λ c κs. search needs) (λ c. search needs) (λ c κs. search needs)
+    returns)

@@ -47,5 +47,6 @@ returns c =
 
 pub fault-with-spec : {M : Type 1} → statement M
 fault-with-spec =
-    tie.close (tie.spec Inv-loop μ-loop (λ c κs. search needs) loop-holds (λ c κs. search needs) cost-of-requires (λ c κs. search needs) loop-less loop-again
-    (λ c κs. search needs) returns)
+    tie.close (tie.spec
+    Inv-loop μ-loop (λ c κs. search needs) loop-holds (λ c κs. search needs) cost-of-requires (λ c κs. search needs)
+    loop-less loop-again (λ c κs. search needs) returns)

@@ -31,5 +31,6 @@ returns-3 c =
 
 pub write-symbols-spec : {M : Type 1} → statement M
 write-symbols-spec =
-    tie.close (tie.spec returns (λ c. search needs) slice-write-area (λ c. search needs) returns-2 (λ c. search needs) (λ c. search needs) slice-write-area-2
-    (λ c. search needs) returns-3)
+    tie.close (tie.spec
+    returns (λ c. search needs) slice-write-area (λ c. search needs) returns-2 (λ c. search needs) (λ c. search needs)
+    slice-write-area-2 (λ c. search needs) returns-3)

@@ -43,5 +43,6 @@ returns-2 c =
 
 pub card-spec : {M : Type 1} → statement M
 card-spec =
-    tie.close (tie.spec (λ c. search needs) (λ c κs. search needs) (λ c. search needs) (λ c κs. search needs) (λ c. search needs) array-share-prefix-marks
-    slice-aggregate-card-of (λ c κs. search needs) card-of-requires returns returns-2)
+    tie.close (tie.spec
+    (λ c. search needs) (λ c κs. search needs) (λ c. search needs) (λ c κs. search needs) (λ c. search needs)
+    array-share-prefix-marks slice-aggregate-card-of (λ c κs. search needs) card-of-requires returns returns-2)

@@ -7,38 +7,23 @@ use Rattle.immunity.proofs.Tables.{marks-answer, alone}
 use Rattle.immunity.proofs.column_of.Statement.{statement}
 use Rattle.immunity.proofs.column_of.Tie as tie
 
-empty-requires : tie.Need-empty-requires
-empty-requires c κs = search needs
-
-kind-at-requires : tie.Need-kind-at-requires
-kind-at-requires c κs = search needs
-
-with-requires : tie.Need-with-requires
-with-requires c κs = search needs
-
 examine-set-requires : tie.Need-examine-set-requires
 examine-set-requires c κs =
     let p = c .before .before .before .before .before .before .before .pre in
     record { rows = p .0 .rows; outputs = p .0 .marks-length; start-in = p .0 .well-formed .start-in; squared = p .1 }
 
-same-length : tie.Need-same-length
-same-length c = search needs
-
 returns : tie.Need-returns
 returns c =
     let s = c .before .before .before .before .before .before .before .before .before .before in
     let a = s .args in
-    let e = marks-answer (s .pre .0) (c .before .before .before .before .with .result .bits) _ (le-of-eq (sym (s .pre .3))) (c .before .before .examine-set .ensures .0) in
+    let set = c .before .before .before .before .with in
     let kind = c .before .before .before .before .before .kind-at in
-    (alone (monitorIn (a .t) (a .marks) (a .nexts)) (a .rank) (kind .result) (kind .ensures) (c .before .before .before .before .before .before .empty .ensures) (c .before .before .before .before .with .ensures) e, search needs)
+    let found = marks-answer (s .pre .0) (set .result .bits) _ (le-of-eq (sym (s .pre .3))) (c .before .before .examine-set .ensures .0) in
+    let none = c .before .before .before .before .before .before .empty .ensures in
+    (alone (monitorIn (a .t) (a .marks) (a .nexts)) (a .rank) (kind .result) (kind .ensures) none (set .ensures) found, search needs)
 
 pub column-of-spec : {M : Type 1} → statement M
 column-of-spec =
-    tie.close
-    (tie.spec
-    empty-requires
-    kind-at-requires
-    with-requires
-    examine-set-requires
-    same-length
+    tie.close (tie.spec
+    (λ c κs. search needs) (λ c κs. search needs) (λ c κs. search needs) examine-set-requires (λ c. search needs)
     returns)

@@ -19,12 +19,6 @@ Inv-loop marks square nexts t area₀ columns₀ rank₀ area columns rank =
 abbrev μ-loop : tie.MeasureT-loop
 μ-loop marks square nexts t area₀ columns₀ rank₀ area columns rank = kinds - rank
 
-scratch-requires : tie.Need-scratch-requires Inv-loop μ-loop
-scratch-requires c κs = search needs
-
-slice-aggregate-column-of : tie.Need-slice-aggregate-column-of Inv-loop μ-loop
-slice-aggregate-column-of c = search needs
-
 column-of-requires : tie.Need-column-of-requires Inv-loop μ-loop
 column-of-requires c κs =
     let s = c .before .before .before .before in
@@ -36,25 +30,10 @@ loop-holds c =
     let e = c .before .column-of .ensures in
     (filled-one (alone-in (monitorIn (a .t) (a .marks) (a .nexts))) _ (e .0), e .1)
 
-slice-aggregate-column-of-2 : tie.Need-slice-aggregate-column-of-2 Inv-loop μ-loop
-slice-aggregate-column-of-2 c = search needs
-
 column-of-requires-2 : tie.Need-column-of-requires-2 Inv-loop μ-loop
 column-of-requires-2 c κs =
     let s = c .before .before .before .before .before .before .before .before .before in
     (s .pre .0, s .pre .1, c .before .loop-test .taken, c .before .before .loop .inv .1)
-
-mul-columns : tie.Need-mul-columns Inv-loop μ-loop
-mul-columns c = search needs
-
-array-set-from-columns : tie.Need-array-set-from-columns Inv-loop μ-loop
-array-set-from-columns c = search needs
-
-add-rank : tie.Need-add-rank Inv-loop μ-loop
-add-rank c = search needs
-
-loop-less : tie.Need-loop-less Inv-loop μ-loop
-loop-less c = search needs
 
 loop-again : tie.Need-loop-again Inv-loop μ-loop
 loop-again c =
@@ -66,19 +45,7 @@ returns c = filled-all (c .before .loop .inv .0) (c .loop-test .left)
 
 pub columns-of-spec : {M : Type 1} → statement M
 columns-of-spec =
-    tie.close
-    (tie.spec
-    Inv-loop
-    μ-loop
-    scratch-requires
-    slice-aggregate-column-of
-    column-of-requires
-    loop-holds
-    slice-aggregate-column-of-2
-    column-of-requires-2
-    mul-columns
-    array-set-from-columns
-    add-rank
-    loop-less
-    loop-again
+    tie.close (tie.spec
+    Inv-loop μ-loop (λ c κs. search needs) (λ c. search needs) column-of-requires loop-holds (λ c. search needs)
+    column-of-requires-2 (λ c. search needs) (λ c. search needs) (λ c. search needs) (λ c. search needs) loop-again
     returns)

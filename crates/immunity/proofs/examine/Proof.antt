@@ -46,5 +46,6 @@ returns-2 c =
 
 pub examine-spec : {M : Type 1} → statement M
 examine-spec =
-    tie.close (tie.spec (λ c. search needs) (λ c κs. search needs) (λ c. search needs) (λ c. search needs) array-share-prefix-marks
+    tie.close (tie.spec
+    (λ c. search needs) (λ c κs. search needs) (λ c. search needs) (λ c. search needs) array-share-prefix-marks
     slice-aggregate-examine-table (λ c κs. search needs) examine-table-requires returns (λ c. search needs) returns-2)

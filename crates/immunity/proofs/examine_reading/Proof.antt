@@ -41,5 +41,6 @@ returns c =
 
 pub examine-reading-spec : {M : Type 1} → statement M
 examine-reading-spec =
-    tie.close (tie.spec (λ c. search needs) (λ c κs. search needs) (λ c. search needs) slice-aggregate-read distances-requires examine-set-requires
-    (λ c. search needs) returns)
+    tie.close (tie.spec
+    (λ c. search needs) (λ c κs. search needs) (λ c. search needs) slice-aggregate-read distances-requires
+    examine-set-requires (λ c. search needs) returns)

@@ -66,5 +66,6 @@ returns-3 c =
 
 pub examine-set-spec : {M : Type 1} → statement M
 examine-set-spec =
-    tie.close (tie.spec (λ c κs. search needs) relax-requires (λ c. search needs) (λ c. search needs) returns returns-2 witness-of-requires (λ c. search needs)
-    returns-3)
+    tie.close (tie.spec
+    (λ c κs. search needs) relax-requires (λ c. search needs) (λ c. search needs) returns returns-2 witness-of-requires
+    (λ c. search needs) returns-3)

@@ -28,4 +28,6 @@ returns-3 c =
     rw (le-leb _ _ l, known, ← c .before .before .before .before .of .ensures) e
 
 pub examine-table-spec : {M : Type 1} → statement M
-examine-table-spec = tie.close (tie.spec returns (λ c κs. search needs) returns-2 (λ c κs. search needs) (λ c κs. search needs) (λ c. search needs) returns-3)
+examine-table-spec =
+    tie.close (tie.spec
+    returns (λ c κs. search needs) returns-2 (λ c κs. search needs) (λ c κs. search needs) (λ c. search needs) returns-3)

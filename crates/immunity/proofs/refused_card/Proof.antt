@@ -1,6 +1,5 @@
 -- `refused_card` meets its contract.
 use mathlib.Core.Path.{refl}
-use borrow.Author.Needs.{needs}
 use Rattle.theory.specs.Lists.{each}
 use Rattle.immunity.proofs.refused_card.Statement.{statement}
 use Rattle.immunity.proofs.refused_card.Tie as tie

@@ -127,5 +127,7 @@ returns c =
 
 pub witness-of-spec : {M : Type 1} → statement M
 witness-of-spec =
-    tie.close (tie.spec write-before-requires (λ c. search needs) (λ c. search needs) fault-with-requires write-symbols-requires after-requires after-requires-2
-    add-at write-apart-requires mul-t25 element-copy-out-t28 shared-slice-read-t37 cast-t38 shared-slice-read-t40 cast-t41 same-length returns)
+    tie.close (tie.spec
+    write-before-requires (λ c. search needs) (λ c. search needs) fault-with-requires write-symbols-requires
+    after-requires after-requires-2 add-at write-apart-requires mul-t25 element-copy-out-t28 shared-slice-read-t37
+    cast-t38 shared-slice-read-t40 cast-t41 same-length returns)

@@ -24,5 +24,6 @@ returns c = put-ends (c .before .loop .inv) (omega arith)
 
 pub put-spec : {M : Type 1} → statement M
 put-spec =
-    tie.close (tie.spec Inv-loop μ-loop loop-holds (λ c. search needs) (λ c. search needs) (λ c. search needs) (λ c. search needs) (λ c. search needs)
-    loop-again (λ c. search needs) (λ c. search needs) returns)
+    tie.close (tie.spec
+    Inv-loop μ-loop loop-holds (λ c. search needs) (λ c. search needs) (λ c. search needs) (λ c. search needs)
+    (λ c. search needs) loop-again (λ c. search needs) (λ c. search needs) returns)

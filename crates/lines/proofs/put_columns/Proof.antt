@@ -30,5 +30,6 @@ returns c = columns-all (c .before .loop .inv) (c .loop-test .left) (c .before .
 
 pub put-columns-spec : {M : Type 1} → statement M
 put-columns-spec =
-    tie.close (tie.spec Inv-loop μ-loop loop-holds (λ c. search needs) (λ c. search needs) (λ c κs. search needs) (λ c. search needs) (λ c. search needs)
-    loop-again (λ c. search needs) returns)
+    tie.close (tie.spec
+    Inv-loop μ-loop loop-holds (λ c. search needs) (λ c. search needs) (λ c κs. search needs) (λ c. search needs)
+    (λ c. search needs) loop-again (λ c. search needs) returns)

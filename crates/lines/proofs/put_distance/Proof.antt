@@ -14,5 +14,6 @@ returns-2 c = (let p = c .before .before .put-figure .ensures in (rw (c .before 
 
 pub put-distance-spec : {M : Type 1} → statement M
 put-distance-spec =
-    tie.close (tie.spec (λ c. search needs) put-no-distance-requires (λ c. search needs) (λ c. search needs) (λ c κs. search needs) (λ c. search needs)
-    returns-2)
+    tie.close (tie.spec
+    (λ c. search needs) put-no-distance-requires (λ c. search needs) (λ c. search needs) (λ c κs. search needs)
+    (λ c. search needs) returns-2)

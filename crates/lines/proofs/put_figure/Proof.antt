@@ -10,4 +10,6 @@ returns c = (let p = c .before .before .before .before .before .before .put .ens
     (then p (q .0), omega (arith, p .ends, q .1)))
 
 pub put-figure-spec : {M : Type 1} → statement M
-put-figure-spec = tie.close (tie.spec (λ c. search needs) (λ c κs. search needs) (λ c κs. search needs) (λ c. search needs) returns)
+put-figure-spec =
+    tie.close (tie.spec
+    (λ c. search needs) (λ c κs. search needs) (λ c κs. search needs) (λ c. search needs) returns)

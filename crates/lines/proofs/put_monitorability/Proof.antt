@@ -20,6 +20,7 @@ returns-4 c = (let k = c .before .before .before .before .before .match .rest in
 
 pub put-monitorability-spec : {M : Type 1} → statement M
 put-monitorability-spec =
-    tie.close (tie.spec (λ c. search needs) (λ c κs. search needs) (λ c. search needs) (λ c κs. search needs) (λ c. search needs) (λ c κs. search needs)
-    (λ c. search needs) (λ c κs. search needs) (λ c. search needs) returns (λ c. search needs) returns-2 (λ c. search needs) returns-3 (λ c. search needs)
-    returns-4)
+    tie.close (tie.spec
+    (λ c. search needs) (λ c κs. search needs) (λ c. search needs) (λ c κs. search needs) (λ c. search needs)
+    (λ c κs. search needs) (λ c. search needs) (λ c κs. search needs) (λ c. search needs) returns (λ c. search needs)
+    returns-2 (λ c. search needs) returns-3 (λ c. search needs) returns-4)

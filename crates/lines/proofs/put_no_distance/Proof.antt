@@ -16,5 +16,6 @@ returns-2 c = text-put 21 (rw (c .before .before .before .before .before .enum-t
 
 pub put-no-distance-spec : {M : Type 1} → statement M
 put-no-distance-spec =
-    tie.close (tie.spec (λ c. search needs) (λ c. search needs) (λ c κs. search needs) (λ c. search needs) returns (λ c. search needs) (λ c κs. search needs)
-    (λ c. search needs) returns-2)
+    tie.close (tie.spec
+    (λ c. search needs) (λ c. search needs) (λ c κs. search needs) (λ c. search needs) returns (λ c. search needs)
+    (λ c κs. search needs) (λ c. search needs) returns-2)

@@ -14,4 +14,6 @@ returns c = (let d = c .before .before .before .before .before .decimal .ensures
     number-put _ _ _ (d .1 .0) (d .1 .1) (search needs) (c .before .before .put .ensures))
 
 pub put-number-spec : {M : Type 1} → statement M
-put-number-spec = tie.close (tie.spec (λ c κs. search needs) (λ c. search needs) (λ c. search needs) put-requires (λ c. search needs) returns)
+put-number-spec =
+    tie.close (tie.spec
+    (λ c κs. search needs) (λ c. search needs) (λ c. search needs) put-requires (λ c. search needs) returns)

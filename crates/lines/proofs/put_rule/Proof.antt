@@ -25,5 +25,6 @@ returns-2 c =
 
 pub put-rule-spec : {M : Type 1} → statement M
 put-rule-spec =
-    tie.close (tie.spec (λ c κs. search needs) (λ c. search needs) put-card-requires (λ c. search needs) (λ c κs. search needs) (λ c. search needs) returns
-    (λ c. search needs) returns-2)
+    tie.close (tie.spec
+    (λ c κs. search needs) (λ c. search needs) put-card-requires (λ c. search needs) (λ c κs. search needs)
+    (λ c. search needs) returns (λ c. search needs) returns-2)

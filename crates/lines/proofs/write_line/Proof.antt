@@ -31,5 +31,6 @@ returns-2 c =
 
 pub write-line-spec : {M : Type 1} → statement M
 write-line-spec =
-    tie.close (tie.spec (λ c. search needs) (λ c κs. search needs) returns array-share-prefix-buffer slice-aggregate-copy copy-requires (λ c. search needs)
-    returns-2)
+    tie.close (tie.spec
+    (λ c. search needs) (λ c κs. search needs) returns array-share-prefix-buffer slice-aggregate-copy copy-requires
+    (λ c. search needs) returns-2)

@@ -35,5 +35,6 @@ returns-2 c = rows-end _ _ _ (c .before .loop .inv) (c .before .before .before .
 
 pub first-revoking-spec : {M : Type 1} → statement M
 first-revoking-spec =
-    tie.close (tie.spec Inv-loop μ-loop loop-holds (λ c κs. search needs) (λ c. omega (arith, row-in c)) (λ c. omega (arith, row-in c)) returns
-    (λ c. search needs) (λ c. search needs) loop-again returns-2)
+    tie.close (tie.spec
+    Inv-loop μ-loop loop-holds (λ c κs. search needs) (λ c. omega (arith, row-in c)) (λ c. omega (arith, row-in c))
+    returns (λ c. search needs) (λ c. search needs) loop-again returns-2)

@@ -61,6 +61,7 @@ returns-3 c = scan-ends (c .before .loop .inv) (c .loop-test .left)
 
 pub first-revoking-row-spec : {M : Type 1} → statement M
 first-revoking-row-spec =
-    tie.close (tie.spec Inv-loop μ-loop (λ c. omega (arith, row-in c)) (λ c. omega (arith, row-in c)) (λ c. search needs) returns
-    (λ c. omega (arith, row-in (c .before .before))) loop-holds shared-slice-read-next cast-next shared-slice-read-if2 returns-2 add-i (λ c. search needs)
-    loop-again returns-3)
+    tie.close (tie.spec
+    Inv-loop μ-loop (λ c. omega (arith, row-in c)) (λ c. omega (arith, row-in c)) (λ c. search needs) returns
+    (λ c. omega (arith, row-in (c .before .before))) loop-holds shared-slice-read-next cast-next shared-slice-read-if2
+    returns-2 add-i (λ c. search needs) loop-again returns-3)

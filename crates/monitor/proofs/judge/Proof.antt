@@ -27,4 +27,6 @@ returns-2 c =
     (sym (c .before .before .before .judge-head .ensures) ∙ ap judgement (c .before .enum-told .given .1)))
 
 pub judge-spec : {M : Type 1} → statement M
-judge-spec = tie.close (tie.spec (λ c κs. search needs) (λ c. search needs) returns (λ c. search needs) judge-rows-requires returns-2)
+judge-spec =
+    tie.close (tie.spec
+    (λ c κs. search needs) (λ c. search needs) returns (λ c. search needs) judge-rows-requires returns-2)

@@ -69,7 +69,9 @@ returns-8 c = sym (four (c .before .before) ∙ rw (lt-ltb _ _ (c .if7 .left)))
 
 pub judge-head-spec : {M : Type 1} → statement M
 judge-head-spec =
-    tie.close (tie.spec (λ c κs. search needs) returns (λ c. search needs) (λ c. omega (arith, c .shared-slice-known2 .given 0)) (λ c κs. search needs)
-    returns-2 (λ c κs. search needs) returns-3 (λ c. search needs) (λ c. omega (arith, c .shared-slice-known3 .given 1)) (λ c κs. search needs) returns-4
-    (λ c κs. search needs) returns-5 (λ c. search needs) mul-if6 add-if6-2 (λ c κs. search needs) returns-6 (λ c. search needs) (λ c. search needs)
-    (λ c κs. search needs) returns-7 returns-8)
+    tie.close (tie.spec
+    (λ c κs. search needs) returns (λ c. search needs) (λ c. omega (arith, c .shared-slice-known2 .given 0))
+    (λ c κs. search needs) returns-2 (λ c κs. search needs) returns-3 (λ c. search needs)
+    (λ c. omega (arith, c .shared-slice-known3 .given 1)) (λ c κs. search needs) returns-4 (λ c κs. search needs)
+    returns-5 (λ c. search needs) mul-if6 add-if6-2 (λ c κs. search needs) returns-6 (λ c. search needs)
+    (λ c. search needs) (λ c κs. search needs) returns-7 returns-8)

@@ -94,7 +94,9 @@ returns-4 c =
 
 pub judge-rows-spec : {M : Type 1} → statement M
 judge-rows-spec =
-    tie.close (tie.spec (λ c. omega (arith, head (c .before .before) .long)) (λ c. omega (arith, c .shared-slice-known2 .given 0))
-    (λ c. omega (arith, head (c .before .before .before) .long)) (λ c. omega (arith, c .shared-slice-known3 .given 1)) (λ c κs. search needs)
-    (λ c κs. search needs) (λ c κs. search needs) add-refused (λ c κs. search needs) returns shared-slice-read-first-not-below (λ c κs. search needs)
-    add-refused-2 add-refused-3 (λ c κs. search needs) returns-2 first-revoking-requires add-refused-4 add-refused-5 (λ c κs. search needs) returns-3 returns-4)
+    tie.close (tie.spec
+    (λ c. omega (arith, head (c .before .before) .long)) (λ c. omega (arith, c .shared-slice-known2 .given 0))
+    (λ c. omega (arith, head (c .before .before .before) .long)) (λ c. omega (arith, c .shared-slice-known3 .given 1))
+    (λ c κs. search needs) (λ c κs. search needs) (λ c κs. search needs) add-refused (λ c κs. search needs) returns
+    shared-slice-read-first-not-below (λ c κs. search needs) add-refused-2 add-refused-3 (λ c κs. search needs)
+    returns-2 first-revoking-requires add-refused-4 add-refused-5 (λ c κs. search needs) returns-3 returns-4)

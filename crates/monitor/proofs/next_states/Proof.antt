@@ -9,4 +9,6 @@ returns c = nexts-lent (c .before .before .before .before .args .body .now) (c .
 
 pub next-states-spec : {M : Type 1} → statement M
 next-states-spec =
-    tie.close (tie.spec (λ c κs. search needs) (λ c. search needs) (λ c κs. search needs) (λ c. search needs) (λ c. search needs) (λ c. search needs) returns)
+    tie.close (tie.spec
+    (λ c κs. search needs) (λ c. search needs) (λ c κs. search needs) (λ c. search needs) (λ c. search needs)
+    (λ c. search needs) returns)

@@ -26,4 +26,7 @@ returns c =
     subst (λ (i : ℕ). Entered (s .args .outputs .now) (i * stateLimit) (at .square)) (le-antisymm (at .inv .0) (c .loop-test .left)) (at .inv .1)
 
 pub enter-outputs-spec : {M : Type 1} → statement M
-enter-outputs-spec = tie.close (tie.spec Inv-loop μ-loop loop-holds (λ c κs. search needs) (λ c. search needs) (λ c. search needs) (λ c. search needs) returns)
+enter-outputs-spec =
+    tie.close (tie.spec
+    Inv-loop μ-loop loop-holds (λ c κs. search needs) (λ c. search needs) (λ c. search needs) (λ c. search needs)
+    returns)

@@ -12,5 +12,6 @@ returns-2 c = rw (ne-eqb _ _ (c .if1 .left))
 
 pub enter-pair-spec : {M : Type 1} → statement M
 enter-pair-spec =
-    tie.close (tie.spec (λ c. search needs) (λ c. search needs) returns (λ c. search needs) (λ c. search needs) (λ c. search needs) (λ c. search needs)
-    returns-2)
+    tie.close (tie.spec
+    (λ c. search needs) (λ c. search needs) returns (λ c. search needs) (λ c. search needs) (λ c. search needs)
+    (λ c. search needs) returns-2)

@@ -31,4 +31,6 @@ returns c =
     entered-row (s .pre .0) (s .args .p) (at .q) (at .inv .1) (at .inv .0) (c .loop-test .left)
 
 pub enter-row-spec : {M : Type 1} → statement M
-enter-row-spec = tie.close (tie.spec Inv-loop μ-loop loop-holds (λ c κs. search needs) (λ c. search needs) (λ c. search needs) loop-again returns)
+enter-row-spec =
+    tie.close (tie.spec
+    Inv-loop μ-loop loop-holds (λ c κs. search needs) (λ c. search needs) (λ c. search needs) loop-again returns)

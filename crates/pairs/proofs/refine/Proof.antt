@@ -58,4 +58,6 @@ returns c =
     )
 
 pub refine-spec : {M : Type 1} → statement M
-refine-spec = tie.close (tie.spec Inv-loop μ-loop loop-holds refine-all-requires add-r loop-less loop-again cast-result returns)
+refine-spec =
+    tie.close (tie.spec
+    Inv-loop μ-loop loop-holds refine-all-requires add-r loop-less loop-again cast-result returns)

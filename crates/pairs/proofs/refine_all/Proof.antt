@@ -31,4 +31,6 @@ returns c =
     (le-antisymm (at .inv .0) (c .loop-test .left)) (at .inv .2 ends w)
 
 pub refine-all-spec : {M : Type 1} → statement M
-refine-all-spec = tie.close (tie.spec Inv-loop μ-loop loop-holds (λ c κs. search needs) (λ c. search needs) (λ c. search needs) loop-again returns)
+refine-all-spec =
+    tie.close (tie.spec
+    Inv-loop μ-loop loop-holds (λ c κs. search needs) (λ c. search needs) (λ c. search needs) loop-again returns)

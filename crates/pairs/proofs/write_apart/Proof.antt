@@ -63,5 +63,6 @@ returns c =
 
 pub write-apart-spec : {M : Type 1} → statement M
 write-apart-spec =
-    tie.close (tie.spec Inv-loop μ-loop (λ c κs. search needs) loop-holds (λ c. search needs) (λ c κs. search needs) cast-area (λ c. search needs)
-    successor-requires successor-requires-2 add-i (λ c. search needs) loop-again same-length returns)
+    tie.close (tie.spec
+    Inv-loop μ-loop (λ c κs. search needs) loop-holds (λ c. search needs) (λ c κs. search needs) cast-area
+    (λ c. search needs) successor-requires successor-requires-2 add-i (λ c. search needs) loop-again same-length returns)

@@ -46,18 +46,6 @@ returns c = search needs
 
 pub answers-spec : {M : Type 1} → statement M
 answers-spec =
-    tie.close
-    (tie.spec
-    Inv-loop
-    μ-loop
-    loop-holds
-    add-loop
-    frame-end-requires
-    add-answer
-    sub-answer
-    part-answer-start
-    part-answer-end
-    answer-requires
-    loop-less
-    loop-again
-    returns)
+    tie.close (tie.spec
+    Inv-loop μ-loop loop-holds add-loop frame-end-requires add-answer sub-answer part-answer-start part-answer-end
+    answer-requires loop-less loop-again returns)

@@ -44,4 +44,6 @@ loop-again c =
 
 pub reaching-spec : {M : Type 1} → statement M
 reaching-spec =
-    tie.close (tie.spec Inv-loop μ-loop loop-holds (λ c κs. search needs) (λ c κs. search needs) (λ c κs. search needs) returns loop-less loop-again)
+    tie.close (tie.spec
+    Inv-loop μ-loop loop-holds (λ c κs. search needs) (λ c κs. search needs) (λ c κs. search needs) returns loop-less
+    loop-again)

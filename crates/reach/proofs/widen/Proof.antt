@@ -27,4 +27,6 @@ returns-3 c =
     widen-none (automatonOf (a .n) (a .k) (a .nexts .now)) (member (a .set)) (a .q) (c .before .enters .ensures) (c .if2 .left)
 
 pub widen-spec : {M : Type 1} → statement M
-widen-spec = tie.close (tie.spec (λ c κs. search needs) returns (λ c κs. search needs) (λ c κs. search needs) returns-2 returns-3)
+widen-spec =
+    tie.close (tie.spec
+    (λ c κs. search needs) returns (λ c κs. search needs) (λ c κs. search needs) returns-2 returns-3)

@@ -36,4 +36,6 @@ returns c =
     λ p. at .inv .1 p ∙ ap (λ (i : ℕ). spread (automatonOf (a .n) (a .k) (a .nexts .now)) (member (a .set)) i p) (le-antisymm (at .inv .0) (c .loop-test .left))
 
 pub widen-all-spec : {M : Type 1} → statement M
-widen-all-spec = tie.close (tie.spec Inv-loop μ-loop loop-holds (λ c κs. search needs) (λ c. search needs) (λ c. search needs) loop-again returns)
+widen-all-spec =
+    tie.close (tie.spec
+    Inv-loop μ-loop loop-holds (λ c κs. search needs) (λ c. search needs) (λ c. search needs) loop-again returns)

@@ -18,4 +18,6 @@ returns-2 c =
     reads-class (monitorIn (a .t) (a .marks) (a .nexts)) (a .domain) (a .q) (c .before .if1 .left) (c .class-of .ensures)
 
 pub read-spec : {M : Type 1} → statement M
-read-spec = tie.close (tie.spec (λ c. search needs) cast-result returns (λ c κs. search needs) (λ c. search needs) returns-2)
+read-spec =
+    tie.close (tie.spec
+    (λ c. search needs) cast-result returns (λ c κs. search needs) (λ c. search needs) returns-2)

@@ -46,5 +46,6 @@ returns c =
 
 pub state-after-spec : {M : Type 1} → statement M
 state-after-spec =
-    tie.close (tie.spec Inv-loop μ-loop loop-holds (λ c. search needs) cast-successor successor-requires (λ c. search needs) (λ c. search needs) loop-again
-    returns)
+    tie.close (tie.spec
+    Inv-loop μ-loop loop-holds (λ c. search needs) cast-successor successor-requires (λ c. search needs)
+    (λ c. search needs) loop-again returns)

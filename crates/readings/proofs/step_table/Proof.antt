@@ -34,4 +34,6 @@ returns-4 c =
     (ap₂ (λ (x y : ℕ). answered (x ∷ y ∷ [])) to (reads-at (monitorIn (a .t) (a .marks) (a .nexts)) (a .domain) to (c .read .ensures)))
 
 pub step-table-spec : {M : Type 1} → statement M
-step-table-spec = tie.close (tie.spec (λ c κs. search needs) returns returns-2 returns-3 (λ c κs. search needs) (λ c κs. search needs) returns-4)
+step-table-spec =
+    tie.close (tie.spec
+    (λ c κs. search needs) returns returns-2 returns-3 (λ c κs. search needs) (λ c κs. search needs) returns-4)

@@ -37,5 +37,6 @@ returns-3 c =
 
 pub trace-table-spec : {M : Type 1} → statement M
 trace-table-spec =
-    tie.close (tie.spec (λ c κs. search needs) returns (λ c. search needs) (λ c κs. search needs) returns-2 state-after-requires (λ c κs. search needs)
-    returns-3)
+    tie.close (tie.spec
+    (λ c κs. search needs) returns (λ c. search needs) (λ c κs. search needs) returns-2 state-after-requires
+    (λ c κs. search needs) returns-3)

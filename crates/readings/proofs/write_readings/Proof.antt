@@ -31,4 +31,6 @@ returns-2 c =
     ∙ filled-same (class m) (reading m (a .domain)) (a .area .now) refl (λ q _. reads-class m (a .domain) q (c .before .before .before .before .if1 .left) refl)
 
 pub write-readings-spec : {M : Type 1} → statement M
-write-readings-spec = tie.close (tie.spec (λ c κs. search needs) (λ c. search needs) returns (λ c κs. search needs) (λ c. search needs) returns-2)
+write-readings-spec =
+    tie.close (tie.spec
+    (λ c κs. search needs) (λ c. search needs) returns (λ c κs. search needs) (λ c. search needs) returns-2)

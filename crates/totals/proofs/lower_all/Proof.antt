@@ -46,4 +46,7 @@ returns c =
     (le-antisymm (at .inv .0) (c .loop-test .left)) (at .inv .2)
 
 pub lower-all-spec : {M : Type 1} → statement M
-lower-all-spec = tie.close (tie.spec Inv-loop μ-loop loop-holds (λ c κs. search needs) add-changed (λ c. search needs) (λ c. search needs) loop-again returns)
+lower-all-spec =
+    tie.close (tie.spec
+    Inv-loop μ-loop loop-holds (λ c κs. search needs) add-changed (λ c. search needs) (λ c. search needs) loop-again
+    returns)

@@ -39,5 +39,6 @@ returns-2 c = scan-ends (c .before .loop .inv) (omega (arith, c .loop-test .left
 
 pub onward-by-spec : {M : Type 1} → statement M
 onward-by-spec =
-    tie.close (tie.spec Inv-loop μ-loop loop-holds (λ c κs. search needs) (λ c. search needs) (λ c. search needs) returns (λ c. search needs)
-    (λ c. search needs) loop-again returns-2)
+    tie.close (tie.spec
+    Inv-loop μ-loop loop-holds (λ c κs. search needs) (λ c. search needs) (λ c. search needs) returns
+    (λ c. search needs) (λ c. search needs) loop-again returns-2)

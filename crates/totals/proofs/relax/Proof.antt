@@ -22,4 +22,6 @@ returns : tie.Need-returns Inv-loop μ-loop
 returns c = rounds-end (c .before .before .before .loop .inv) (c .before .lower-all .ensures) (c .if1 .left)
 
 pub relax-spec : {M : Type 1} → statement M
-relax-spec = tie.close (tie.spec Inv-loop μ-loop loop-holds (λ c κs. search needs) (λ c. search needs) loop-again returns)
+relax-spec =
+    tie.close (tie.spec
+    Inv-loop μ-loop loop-holds (λ c κs. search needs) (λ c. search needs) loop-again returns)

@@ -61,5 +61,7 @@ returns c =
 
 pub write-before-spec : {M : Type 1} → statement M
 write-before-spec =
-    tie.close (tie.spec Inv-loop μ-loop (λ c. search needs) (λ c. search needs) loop-holds (λ c. search needs) (λ c. search needs) sub-left
-    (λ c κs. search needs) cast-area slice-write-area successor-requires (λ c. search needs) loop-less loop-again (λ c. search needs) returns)
+    tie.close (tie.spec
+    Inv-loop μ-loop (λ c. search needs) (λ c. search needs) loop-holds (λ c. search needs) (λ c. search needs) sub-left
+    (λ c κs. search needs) cast-area slice-write-area successor-requires (λ c. search needs) loop-less loop-again
+    (λ c. search needs) returns)

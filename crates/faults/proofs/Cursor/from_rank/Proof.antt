@@ -30,4 +30,7 @@ returns-2 : tie.Need-returns-2 Inv-loop μ-loop
 returns-2 c = (let f = c .before .before .loop .inv .1 in (λ k some. fresh-end f (c .if1 .left) k, fresh-placed f))
 
 pub from-rank-spec : {M : Type 1} → statement M
-from-rank-spec = tie.close (tie.spec Inv-loop μ-loop loop-holds (λ c κs. search needs) returns (λ c. search needs) (λ c. search needs) loop-again returns-2)
+from-rank-spec =
+    tie.close (tie.spec
+    Inv-loop μ-loop loop-holds (λ c κs. search needs) returns (λ c. search needs) (λ c. search needs) loop-again
+    returns-2)

@@ -49,5 +49,6 @@ returns-3 c =
 
 pub next-spec : {M : Type 1} → statement M
 next-spec =
-    tie.close (tie.spec add-second (λ c κs. search needs) (λ c κs. search needs) returns (λ c. search needs) returns-2 (λ c. search needs)
+    tie.close (tie.spec
+    add-second (λ c κs. search needs) (λ c κs. search needs) returns (λ c. search needs) returns-2 (λ c. search needs)
     (λ c κs. search needs) returns-3)
