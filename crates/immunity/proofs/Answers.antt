@@ -22,7 +22,7 @@ use Rattle.pairs.specs.Square.{never}
 use Rattle.immunity.specs.Findings.{seriesFigures, witnessFigures, witnessTrace, roomQuestions}
 use Rattle.immunity.proofs.Search.{Searched, total-least, total-found, search-none}
 
-module _ {g : Automaton} {ends : ℕ → ℕ → Bool} {set : ℕ} {d costs v : List ℕ} (h : Searched g ends set d costs v) {start : ℕ}
+module _ {g : Automaton} {ends : ℕ → ℕ → Bool} {set : ℕ} {square costs v : List ℕ} (h : Searched g ends set square costs v) {start : ℕ}
     (start-in : start < g .states) where
   abbrev pub first : Option Series
   first = firstHarmful g ends (steps set (g .symbols)) start

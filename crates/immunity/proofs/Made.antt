@@ -38,27 +38,28 @@ sets-append l i (x ∷ xs) ys =
 pub inside-wider : {k m : ℕ} {s : Symbols} → Inside k s → k ≤ m → Inside m s
 inside-wider i l = record { count-most = i .count-most; first-in = omega (arith, i .first-in); second-in = omega (arith, i .second-in) }
 
-pub searched : (set : ℕ) {t : Shape} {outs d costs v ts : List ℕ} → Posed t outs d ts
-    → Costs (automatonIn t ts) d (steps set (t .symbols)) (t .states) costs → Relaxed (automatonIn t ts) costs v
-    → Searched (automatonIn t ts) (differing outs) set d costs v
+pub searched : (set : ℕ) {t : Shape} {outs square costs v ts : List ℕ} → Posed t outs square ts
+    → Costs (automatonIn t ts) square (steps set (t .symbols)) (t .states) costs → Relaxed (automatonIn t ts) costs v
+    → Searched (automatonIn t ts) (differing outs) set square costs v
 searched set p c r = record { closed = next-of-rows (p .rows); squared = p .squared; costs-are = c; relaxed = r }
 
-pub search-ready : {t : Shape} {set : ℕ} {outs d costs v ts : List ℕ} {room : ℕ} → Ready t set outs d costs v ts room
-    → Searched (automatonIn t ts) (differing outs) set d costs v
+pub search-ready : {t : Shape} {set : ℕ} {outs square costs v ts : List ℕ} {room : ℕ} → Ready t set outs square costs v ts room
+    → Searched (automatonIn t ts) (differing outs) set square costs v
 search-ready {set = set} r = searched set (r .posed) (r .costs-are) (r .relaxed)
 
 -- `count` symbols lead from the start to `state`, where the fault is the first that costs what the state does
-pub record Chosen (g : Automaton) (set : ℕ) (d costs v : List ℕ) (start state count : ℕ) (fault : Fault) : Type 0 where
+pub record Chosen (g : Automaton) (set : ℕ) (square costs v : List ℕ) (start state count : ℕ) (fault : Fault) : Type 0 where
   pub start-in : start < g .states
   pub low : getD v start 0 < never
   pub is-count : count ≡ length (wayToFault g v costs start)
   pub is-state : state ≡ run g start (wayToFault g v costs start)
   pub is-cost : count + getD costs state 0 ≡ getD v start 0
-  pub picked : find (costing g d state (getD costs state 0)) (steps set (g .symbols)) ≡ some (stepFor fault)
+  pub picked : find (costing g square state (getD costs state 0)) (steps set (g .symbols)) ≡ some (stepFor fault)
   pub ranged : Ranged (g .symbols) fault
 
-module _ {g : Automaton} {ends : ℕ → ℕ → Bool} {set : ℕ} {d costs v : List ℕ} {start state count : ℕ} {fault : Fault} (h : Searched g ends set d costs v)
-    (k : Chosen g set d costs v start state count fault) where
+module _ {g : Automaton} {ends : ℕ → ℕ → Bool} {set : ℕ} {square costs v : List ℕ} {start state count : ℕ} {fault : Fault}
+    (h : Searched g ends set square costs v)
+    (k : Chosen g set square costs v start state count fault) where
   abbrev way : List ℕ
   way = wayToFault g v costs start
 
@@ -66,7 +67,7 @@ module _ {g : Automaton} {ends : ℕ → ℕ → Bool} {set : ℕ} {d costs v : 
   step = stepFor fault
 
   abbrev apart : ℕ
-  apart = entry d (run g state (step .sent)) (run g state (step .received))
+  apart = entry square (run g state (step .sent)) (run g state (step .received))
 
   -- how many symbols the fault covers
   covers : fault .sent .count ≡ length (step .sent)
@@ -75,8 +76,8 @@ module _ {g : Automaton} {ends : ℕ → ℕ → Bool} {set : ℕ} {d costs v : 
   -- what is covered and what is still to be sent are the cost
   made-cost : length (step .sent) + apart ≡ getD costs state 0
   made-cost =
-      let f = find-in (costing g d state (getD costs state 0)) (steps set (g .symbols)) (k .picked) in
-      cost-sum (length (step .sent)) apart (getD costs state 0) (eqb-true (costOf g d state step) (getD costs state 0) (f .1))
+      let f = find-in (costing g square state (getD costs state 0)) (steps set (g .symbols)) (k .picked) in
+      cost-sum (length (step .sent)) apart (getD costs state 0) (eqb-true (costOf g square state step) (getD costs state 0) (f .1))
       (omega (arith, k .is-cost, k .low))
 
   made-sum : count + (length (step .sent) + apart) ≡ getD v start 0
@@ -93,26 +94,27 @@ module _ {g : Automaton} {ends : ℕ → ℕ → Bool} {set : ℕ} {d costs v : 
   made-fits area e l = (let x = made-sum in let y = ap length e ∙ length-sets area 0 way in omega (arith, x, y, l))
 
   pub made-fits-on : (area : List ℕ) {one two : List ℕ} {p q : ℕ} → one ≡ sets area 0 way → two ≡ sets one count (step .sent)
-      → p ≡ run g state (step .sent) → q ≡ run g state (step .received) → getD v start 0 ≤ length area → count + fault .sent .count + entry d p q ≤ length two
+      → p ≡ run g state (step .sent) → q ≡ run g state (step .received) → getD v start 0 ≤ length area
+      → count + fault .sent .count + entry square p q ≤ length two
   made-fits-on area {one} e₁ e₂ ep eq l =
       let x = made-sum in
       let y = ap length e₂ ∙ length-sets one count (step .sent) ∙ ap length e₁ ∙ length-sets area 0 way in
       rw (ep, eq) (omega (arith, x, y, covers, l))
 
-  pub made-apart : {p q : ℕ} → p ≡ run g state (step .sent) → q ≡ run g state (step .received) → entry d p q < never
+  pub made-apart : {p q : ℕ} → p ≡ run g state (step .sent) → q ≡ run g state (step .received) → entry square p q < never
   made-apart ep eq = rw (ep, eq) made-low
 
   abbrev pub made : Series
-  made = record { before = way; fault = step; after = path g d apart (run g state (step .sent)) (run g state (step .received)) }
+  made = record { before = way; fault = step; after = path g square apart (run g state (step .sent)) (run g state (step .received)) }
 
   made-first : firstHarmful g ends (steps set (g .symbols)) start ≡ some made
   made-first =
-      subst (λ (q : ℕ). find (costing g d q (getD costs q 0)) (steps set (g .symbols)) ≡ some step
+      subst (λ (q : ℕ). find (costing g square q (getD costs q 0)) (steps set (g .symbols)) ≡ some step
       → firstHarmful g ends (steps set (g .symbols)) start ≡ some
       (record {
         before = way;
         fault = step;
-        after = path g d (entry d (run g q (step .sent)) (run g q (step .received))) (run g q (step .sent)) (run g q (step .received));
+        after = path g square (entry square (run g q (step .sent)) (run g q (step .received))) (run g q (step .sent)) (run g q (step .received));
       }))
       (sym (k .is-state))
       (search-finds h start step (k .start-in) (k .low)) (k .picked)
@@ -124,11 +126,11 @@ module _ {g : Automaton} {ends : ℕ → ℕ → Bool} {set : ℕ} {d costs v : 
   -- the three parts written one after the other
   pub made-written : {s : Series} (area : List ℕ) {one two three : List ℕ} {p q : ℕ} → firstHarmful g ends (steps set (g .symbols)) start ≡ some s
       → one ≡ sets area 0 way → two ≡ sets one count (step .sent)
-      → p ≡ run g state (step .sent) → q ≡ run g state (step .received) → three ≡ sets two (count + fault .sent .count) (path g d (entry d p q) p q)
+      → p ≡ run g state (step .sent) → q ≡ run g state (step .received) → three ≡ sets two (count + fault .sent .count) (path g square (entry square p q) p q)
       → three ≡ sets area 0 (sentTrace s)
   made-written {s} area {two = two} {p = p} {q = q} e h₁ h₂ ep eq h₃ =
       h₃
-      ∙ ap (λ (j : ℕ). sets two (count + j) (path g d (entry d p q) p q)) covers
+      ∙ ap (λ (j : ℕ). sets two (count + j) (path g square (entry square p q) p q)) covers
       ∙ rw (ep, eq, h₂, h₁, k .is-count)
       (sets-append (sets area 0 way) (length way) (step .sent) (made .after)
       ∙ ap (λ (j : ℕ). sets (sets area 0 way) j (step .sent ++ made .after)) (let z : length way ≡ 0 + length way = omega arith in z)
@@ -138,14 +140,15 @@ module _ {g : Automaton} {ends : ℕ → ℕ → Bool} {set : ℕ} {d costs v : 
   -- the figures of the witness made
   pub made-figures : {s : Series} (outs : List ℕ) {x y p q : ℕ} → firstHarmful g ends (steps set (g .symbols)) start ≡ some s
       → p ≡ run g state (step .sent) → q ≡ run g state (step .received)
-      → x ≡ run g p (path g d (entry d p q) p q) → y ≡ run g q (path g d (entry d p q) p q)
+      → x ≡ run g p (path g square (entry square p q) p q) → y ≡ run g q (path g square (entry square p q) p q)
       → _≡_ {A = List ℕ} (getD v start 0 ∷ count ∷ bitOf (fault .kind) ∷ fault .replacement ∷ getD outs x 0 ∷ getD outs y 0 ∷ [])
       (seriesFigures (λ r. getD outs r 0) g start s)
   made-figures {s} outs e ep eq ex ey =
       rw (distance, k .is-count, ex, ey, ep, eq, sent, received) (ap (seriesFigures (λ r. getD outs r 0) g start) (made-is e))
     where
       distance : getD v start 0 ≡ length (sentTrace made)
-      distance = (let x = made-sum in let y = sent-length made in let z = path-length g d apart (run g state (step .sent)) (run g state (step .received)) in
+      distance =
+          (let x = made-sum in let y = sent-length made in let z = path-length g square apart (run g state (step .sent)) (run g state (step .received)) in
           omega (arith, x, y, z, k .is-count))
 
       sent : run g (run g state (step .sent)) (made .after) ≡ run g start (sentTrace made)

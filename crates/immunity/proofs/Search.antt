@@ -37,13 +37,13 @@ pub cost-sum : (l e c : ℕ) → plus l e ≡ c → c < never → l + e ≡ c
 cost-sum l e c h s = omega arith
 
 -- what a search has made: the square, the costs and the totals
-pub record Searched (g : Automaton) (ends : ℕ → ℕ → Bool) (set : ℕ) (d costs v : List ℕ) : Type 0 where
+pub record Searched (g : Automaton) (ends : ℕ → ℕ → Bool) (set : ℕ) (square costs v : List ℕ) : Type 0 where
   pub closed : Closed g
-  pub squared : Squared g ends d
-  pub costs-are : Costs g d (steps set (g .symbols)) (g .states) costs
+  pub squared : Squared g ends square
+  pub costs-are : Costs g square (steps set (g .symbols)) (g .states) costs
   pub relaxed : Relaxed g costs v
 
-module _ {g : Automaton} {ends : ℕ → ℕ → Bool} {set : ℕ} {d costs v : List ℕ} (seen : Searched g ends set d costs v) where
+module _ {g : Automaton} {ends : ℕ → ℕ → Bool} {set : ℕ} {square costs v : List ℕ} (seen : Searched g ends set square costs v) where
   abbrev faults : List FaultStep
   faults = steps set (g .symbols)
 
@@ -68,7 +68,7 @@ module _ {g : Automaton} {ends : ℕ → ℕ → Bool} {set : ℕ} {d costs v : 
 
   -- the pair of states after a fault step at p
   abbrev gap : ℕ → FaultStep → ℕ
-  gap p s = entry d (run g p (s .sent)) (run g p (s .received))
+  gap p s = entry square (run g p (s .sent)) (run g p (s .received))
 
   sent-in : (p : ℕ) (s : FaultStep) → p < g .states → In s faults → run g p (s .sent) < g .states
   sent-in p s lp i = run-in (seen .closed) p (s .sent) lp (good s i .sent-trace)
@@ -78,7 +78,7 @@ module _ {g : Automaton} {ends : ℕ → ℕ → Bool} {set : ℕ} {d costs v : 
 
   -- a fault step and what tells its two states apart are together no shorter than the step's cost, nor than the state's
   step-least : (p : ℕ) (s : FaultStep) (w : List ℕ) → p < g .states → In s faults → Tells g ends (run g p (s .sent)) (run g p (s .received)) w
-      → costOf g d p s ≤ length (s .sent) + length w
+      → costOf g square p s ≤ length (s .sent) + length w
   step-least p s w lp i t =
       let e = noted-least (seen .squared .noted (run g p (s .sent)) (run g p (s .received)) (sent-in p s lp i) (received-in p s lp i)) w t in
       let u = plus-at-most (length (s .sent)) (gap p s) in
@@ -182,13 +182,13 @@ module _ {g : Automaton} {ends : ℕ → ℕ → Bool} {set : ℕ} {d costs v : 
   madeOf l p f = record {
     before = approach g v costs l p;
     fault = f;
-    after = path g d (gap (run g p (approach g v costs l p)) f) (run g (run g p (approach g v costs l p)) (f .sent))
+    after = path g square (gap (run g p (approach g v costs l p)) f) (run g (run g p (approach g v costs l p)) (f .sent))
         (run g (run g p (approach g v costs l p)) (f .received));
   }
 
   -- a series that begins with a fault step costs at least what the step does
   struck-cost : (p l : ℕ) (s : FaultStep) (u : Series) → p < g .states → In s faults → In u (struck (g .symbols) l s) → harmful g ends p u ≡ true
-      → costOf g d p s ≤ l
+      → costOf g square p s ≤ l
   unfolding run Trace
   struck-cost p l s u lp i j h =
       let r = struck-is g l s u j in
@@ -201,8 +201,8 @@ module _ {g : Automaton} {ends : ℕ → ℕ → Bool} {set : ℕ} {d costs v : 
       omega (arith, x, y)
 
   -- a step that costs l begins a harmful series of length l, the first of which goes on by the path
-  struck-first : (p l : ℕ) (f : FaultStep) → p < g .states → In f faults → costOf g d p f ≡ l → l < never
-      → find (harmful g ends p) (struck (g .symbols) l f) ≡ some (begin f (path g d (gap p f) (run g p (f .sent)) (run g p (f .received))))
+  struck-first : (p l : ℕ) (f : FaultStep) → p < g .states → In f faults → costOf g square p f ≡ l → l < never
+      → find (harmful g ends p) (struck (g .symbols) l f) ≡ some (begin f (path g square (gap p f) (run g p (f .sent)) (run g p (f .received))))
   struck-first p l f lp i e s =
       let sum : length (f .sent) + gap p f ≡ l = cost-sum (length (f .sent)) (gap p f) l e s in
       let rest : l - length (f .sent) ≡ gap p f = omega arith in
@@ -217,18 +217,18 @@ module _ {g : Automaton} {ends : ℕ → ℕ → Bool} {set : ℕ} {d costs v : 
       same w = rw (run-append g p (f .sent) w, run-append g p (f .received) w)
 
   -- where the cost is the total, the fault comes at once
-  at-once : (p l : ℕ) (f : FaultStep) → p < g .states → cost p ≡ l → l < never → find (λ s. eqb (costOf g d p s) (cost p)) faults ≡ some f
-      → find (harmful g ends p) (flatMap (struck (g .symbols) l) faults) ≡ some (begin f (path g d (gap p f) (run g p (f .sent)) (run g p (f .received))))
+  at-once : (p l : ℕ) (f : FaultStep) → p < g .states → cost p ≡ l → l < never → find (λ s. eqb (costOf g square p s) (cost p)) faults ≡ some f
+      → find (harmful g ends p) (flatMap (struck (g .symbols) l) faults) ≡ some (begin f (path g square (gap p f) (run g p (f .sent)) (run g p (f .received))))
   at-once p l f lp e s chosen =
-      let r = find-in (λ t. eqb (costOf g d p t) (cost p)) faults chosen in
-      find-flatMap (harmful g ends p) (λ t. eqb (costOf g d p t) (cost p)) (struck (g .symbols) l) faults
+      let r = find-in (λ t. eqb (costOf g square p t) (cost p)) faults chosen in
+      find-flatMap (harmful g ends p) (λ t. eqb (costOf g square p t) (cost p)) (struck (g .symbols) l) faults
       (λ t i no-hit. find-none (harmful g ends p) (struck (g .symbols) l t) (λ u j. not-clash (λ h.
       let x = struck-cost p l t u lp i j h in
       let y = seen .costs-are .each p lp .least t i in
-      let z : costOf g d p t ≡ cost p = omega (arith, x, y) in
-      clash (eq-eqb (costOf g d p t) (cost p) z) no-hit)))
+      let z : costOf g square p t ≡ cost p = omega (arith, x, y) in
+      clash (eq-eqb (costOf g square p t) (cost p) z) no-hit)))
       chosen
-      (struck-first p l f lp (r .0) (eqb-true (costOf g d p f) (cost p) (r .1) ∙ e) s)
+      (struck-first p l f lp (r .0) (eqb-true (costOf g square p f) (cost p) (r .1) ∙ e) s)
 
   -- where the total is less, no fault step at once is harmful
   not-at-once : (p l : ℕ) → p < g .states → l < cost p → find (harmful g ends p) (flatMap (struck (g .symbols) l) faults) ≡ none
@@ -240,7 +240,7 @@ module _ {g : Automaton} {ends : ℕ → ℕ → Bool} {set : ℕ} {d costs v : 
       omega (arith, x, y, less))))
 
   pub first-made : (l p : ℕ) (f : FaultStep) → p < g .states → total p ≡ l → l < never
-      → find (λ s. eqb (costOf g d (run g p (approach g v costs l p)) s) (cost (run g p (approach g v costs l p)))) faults ≡ some f
+      → find (λ s. eqb (costOf g square (run g p (approach g v costs l p)) s) (cost (run g p (approach g v costs l p)))) faults ≡ some f
       → find (harmful g ends p) (series faults (g .symbols) l) ≡ some (madeOf l p f)
   unfolding series approach run
   first-made zero p f lp e s chosen = at-once p zero f lp now s chosen
@@ -256,13 +256,13 @@ module _ {g : Automaton} {ends : ℕ → ℕ → Bool} {set : ℕ} {d costs v : 
       way b = cond b [] (a ∷ approach g v costs l (g .next p a))
 
       made : List ℕ → Series
-      made x = record { before = x; fault = f; after = path g d (gap (run g p x) f) (run g (run g p x) (f .sent)) (run g (run g p x) (f .received)) }
+      made x = record { before = x; fault = f; after = path g square (gap (run g p x) f) (run g (run g p x) (f .sent)) (run g (run g p x) (f .received)) }
 
       go : (b : Bool) → eqb (cost p) (suc l) ≡ b
           → ((q : ℕ) (h : FaultStep) → q < g .states → total q ≡ l → l < never
-          → find (λ s. eqb (costOf g d (run g q (approach g v costs l q)) s) (cost (run g q (approach g v costs l q)))) faults ≡ some h
+          → find (λ s. eqb (costOf g square (run g q (approach g v costs l q)) s) (cost (run g q (approach g v costs l q)))) faults ≡ some h
           → find (harmful g ends q) (series faults (g .symbols) l) ≡ some (madeOf l q h))
-          → find (λ s. eqb (costOf g d (run g p (way b)) s) (cost (run g p (way b)))) faults ≡ some f
+          → find (λ s. eqb (costOf g square (run g p (way b)) s) (cost (run g p (way b)))) faults ≡ some f
           → find (harmful g ends p)
           (flatMap (struck (g .symbols) (suc l)) faults ++ each (g .symbols) (λ b. map (plain b) (series faults (g .symbols) l))) ≡ some (made (way b))
       go true h rest chosen = find-here (harmful g ends p) (flatMap (struck (g .symbols) (suc l)) faults)
@@ -298,7 +298,7 @@ module _ {g : Automaton} {ends : ℕ → ℕ → Bool} {set : ℕ} {d costs v : 
 
   -- the first harmful series from p
   pub search-finds : (p : ℕ) (f : FaultStep) → p < g .states → total p < never
-      → find (λ s. eqb (costOf g d (run g p (approach g v costs (total p) p)) s) (cost (run g p (approach g v costs (total p) p)))) faults ≡ some f
+      → find (λ s. eqb (costOf g square (run g p (approach g v costs (total p) p)) s) (cost (run g p (approach g v costs (total p) p)))) faults ≡ some f
       → firstHarmful g ends faults p ≡ some (madeOf (total p) p f)
   search-finds p f lp s chosen =
       found-first g ends faults (seen .closed) good p lp (total p) (madeOf (total p) p f) (total-within p lp s) (λ t h. total-least p t lp h)

@@ -15,17 +15,17 @@ use Rattle.pairs.specs.Square.{never, squareSize, place, entry, stored, 
 -- ---- places of the square
 
 -- after a store for p and q the entries of other pairs stay
-module _ (d : List ℕ) (size : length d ≡ squareSize) (p q v : ℕ) where
-  pub stored-size : (u : Bool) → length (stored d p q v u) ≡ squareSize
-  stored-size true = length-set d (place p q) v ∙ size
+module _ (square : List ℕ) (size : length square ≡ squareSize) (p q v : ℕ) where
+  pub stored-size : (u : Bool) → length (stored square p q v u) ≡ squareSize
+  stored-size true = length-set square (place p q) v ∙ size
   stored-size false = size
 
-  pub stored-here : p < stateLimit → q < stateLimit → (u : Bool) → entry (stored d p q v u) p q ≡ cond u v (entry d p q)
-  stored-here lp lq true = getD-set-same d (place p q) v 0 (omega arith)
+  pub stored-here : p < stateLimit → q < stateLimit → (u : Bool) → entry (stored square p q v u) p q ≡ cond u v (entry square p q)
+  stored-here lp lq true = getD-set-same square (place p q) v 0 (omega arith)
   stored-here lp lq false = refl
 
-  pub stored-elsewhere : (u : Bool) (x y : ℕ) → (place x y ≡ place p q → ⊥) → entry (stored d p q v u) x y ≡ entry d x y
-  stored-elsewhere true x y ne = getD-set-other d (place p q) (place x y) v 0 ne
+  pub stored-elsewhere : (u : Bool) (x y : ℕ) → (place x y ≡ place p q → ⊥) → entry (stored square p q v u) x y ≡ entry square x y
+  stored-elsewhere true x y ne = getD-set-other square (place p q) (place x y) v 0 ne
   stored-elsewhere false x y ne = refl
 
 -- what holds of all pairs before the place of p and q, and of p and q, holds of all pairs before the next place
@@ -51,22 +51,24 @@ pub blank-filled : Blank (replicate squareSize never)
 blank-filled = record { size = length-replicate {A = ℕ} squareSize never; filled = λ i l. getD-replicate {A = ℕ} squareSize i never 0 l }
 
 module _ {outs : List ℕ} (m : length outs ≤ stateLimit) where
-  pub entered-none : {d : List ℕ} → Blank d → Entered outs 0 d
+  pub entered-none : {square : List ℕ} → Blank square → Entered outs 0 square
   entered-none b = record { size = b .size; done = λ p q lp lq l. absurd (omega arith); rest = λ p q lp lq _. b .filled (place p q) (omega arith) }
 
-  pub entered-turn : (p q : ℕ) → p < length outs → q < length outs → {d e : List ℕ} → Entered outs (place p q) d → e ≡ stored d p q 0 (differing outs p q)
+  pub entered-turn : (p q : ℕ) → p < length outs → q < length outs → {square e : List ℕ} → Entered outs (place p q) square
+      → e ≡ stored square p q 0 (differing outs p q)
       → Entered outs (place p (q + 1)) e
-  entered-turn p q lp lq {d} b h =
+  entered-turn p q lp lq {square} b h =
       let u = differing outs p q in
       rw h (record {
-        size = stored-size d (b .size) p q 0 u;
-        done = one-more (λ x y. entry (stored d p q 0 u) x y ≡ firstEntry outs x y) (length outs) p q m lq
-            (λ x y lx ly l. stored-elsewhere d (b .size) p q 0 u x y (λ h. omega arith) ∙ b .done x y lx ly l)
-            (stored-here d (b .size) p q 0 (omega arith) (omega arith) u ∙ ap (cond u 0) (b .rest p q lp lq (omega arith)));
-        rest = λ x y lx ly l. stored-elsewhere d (b .size) p q 0 u x y (λ h. omega arith) ∙ b .rest x y lx ly (omega arith);
+        size = stored-size square (b .size) p q 0 u;
+        done = one-more (λ x y. entry (stored square p q 0 u) x y ≡ firstEntry outs x y) (length outs) p q m lq
+            (λ x y lx ly l. stored-elsewhere square (b .size) p q 0 u x y (λ h. omega arith) ∙ b .done x y lx ly l)
+            (stored-here square (b .size) p q 0 (omega arith) (omega arith) u ∙ ap (cond u 0) (b .rest p q lp lq (omega arith)));
+        rest = λ x y lx ly l. stored-elsewhere square (b .size) p q 0 u x y (λ h. omega arith) ∙ b .rest x y lx ly (omega arith);
       })
 
-  pub entered-row : {d : List ℕ} (p q : ℕ) → Entered outs (place p q) d → q ≤ length outs → length outs ≤ q → Entered outs ((p + 1) * stateLimit) d
+  pub entered-row : {square : List ℕ} (p q : ℕ) → Entered outs (place p q) square → q ≤ length outs → length outs ≤ q
+      → Entered outs ((p + 1) * stateLimit) square
   entered-row p q b u e = record {
     size = b .size;
     done = λ x y lx ly l. b .done x y lx ly (row-done (length outs) p q x y m e ly l);
@@ -74,23 +76,23 @@ module _ {outs : List ℕ} (m : length outs ≤ stateLimit) where
   }
 
   -- all rows are done
-  module _ {n : ℕ} (same : length outs ≡ n) {d : List ℕ} (b : Entered outs (length outs * stateLimit) d) (p q : ℕ) (lp : p < n) (lq : q < n) where
-    known : entry d p q ≡ firstEntry outs p q
+  module _ {n : ℕ} (same : length outs ≡ n) {square : List ℕ} (b : Entered outs (length outs * stateLimit) square) (p q : ℕ) (lp : p < n) (lq : q < n) where
+    known : entry square p q ≡ firstEntry outs p q
     known = b .done p q (omega arith) (omega arith) (omega arith)
 
-    entered-either : (entry d p q ≡ 0) ⊎ (entry d p q ≡ never)
+    entered-either : (entry square p q ≡ 0) ⊎ (entry square p q ≡ never)
     entered-either = go (differing outs p q) known
       where
         go : {e : ℕ} (t : Bool) → e ≡ cond t 0 never → (e ≡ 0) ⊎ (e ≡ never)
         go true h = inl h
         go false h = inr h
 
-    pub at-once-differing : apartAtOnce d p q ≡ differing outs p q
+    pub at-once-differing : apartAtOnce square p q ≡ differing outs p q
     at-once-differing = ap (λ (e : ℕ). eqb e 0) known ∙ go (differing outs p q)
       where
         go : (t : Bool) → eqb (cond t 0 never) 0 ≡ t
         go true = refl
         go false = refl
 
-  pub entered-fresh : {n : ℕ} → length outs ≡ n → {d : List ℕ} → Entered outs (length outs * stateLimit) d → Fresh n d
+  pub entered-fresh : {n : ℕ} → length outs ≡ n → {square : List ℕ} → Entered outs (length outs * stateLimit) square → Fresh n square
   entered-fresh same b = record { size = b .size; either = entered-either same b }

@@ -34,62 +34,63 @@ noted-extent {P} e s = go (eqb e never) refl
     go false h = s .found (⊎-elim (λ l. l) (λ l. absurd (eqb-false e never h (omega (arith, s .most)))) (lt-or-le e never))
 
 -- the square holds the distance of every pair
-pub square-exact : {g : Automaton} {ends : ℕ → ℕ → Bool} {d : List ℕ} → Squared g ends d → (p q : ℕ) → p < g .states → q < g .states
-    → PairDistance g ends p q (extent (entry d p q))
-square-exact {d = d} s p q lp lq = noted-extent (entry d p q) (s .noted p q lp lq)
+pub square-exact : {g : Automaton} {ends : ℕ → ℕ → Bool} {square : List ℕ} → Squared g ends square → (p q : ℕ) → p < g .states → q < g .states
+    → PairDistance g ends p q (extent (entry square p q))
+square-exact {square = square} s p q lp lq = noted-extent (entry square p q) (s .noted p q lp lq)
 
-module _ (g : Automaton) (d : List ℕ) (e p q : ℕ) where
+module _ (g : Automaton) (square : List ℕ) (e p q : ℕ) where
   -- the symbol leads from p and q to a pair with the entry e
   abbrev pub leadsTo : ℕ → Bool
-  leadsTo a = eqb (entry d (g .next p a) (g .next q a)) e
+  leadsTo a = eqb (entry square (g .next p a) (g .next q a)) e
 
-  pub leads-as : {x y r : ℕ} {b : Bool} (a : ℕ) → x ≡ g .next p a → y ≡ g .next q a → r ≡ entry d x y → eqb r e ≡ b → leadsTo a ≡ b
+  pub leads-as : {x y r : ℕ} {b : Bool} (a : ℕ) → x ≡ g .next p a → y ≡ g .next q a → r ≡ entry square x y → eqb r e ≡ b → leadsTo a ≡ b
   leads-as a ex ey er h = rw (← ex, ← ey, ← er) h
 
-  pub nearer-least : (a : ℕ) → entry d (g .next p a) (g .next q a) ≡ e → nearer g d e p q ≤ a
+  pub nearer-least : (a : ℕ) → entry square (g .next p a) (g .next q a) ≡ e → nearer g square e p q ≤ a
   nearer-least a h =
-      ⊎-elim (λ l. absurd (clash (eq-eqb (entry d (g .next p a) (g .next q a)) e h) (first-below leadsTo 0 (g .symbols) a zero-le l))) (λ l. l)
-      (lt-or-le a (nearer g d e p q))
+      ⊎-elim (λ l. absurd (clash (eq-eqb (entry square (g .next p a) (g .next q a)) e h) (first-below leadsTo 0 (g .symbols) a zero-le l))) (λ l. l)
+      (lt-or-le a (nearer g square e p q))
 
-  pub nearer-leads : nearer g d e p q < g .symbols → entry d (g .next p (nearer g d e p q)) (g .next q (nearer g d e p q)) ≡ e
-  nearer-leads l = eqb-true (entry d (g .next p (nearer g d e p q)) (g .next q (nearer g d e p q))) e (first-here leadsTo 0 (g .symbols) (omega arith))
+  pub nearer-leads : nearer g square e p q < g .symbols → entry square (g .next p (nearer g square e p q)) (g .next q (nearer g square e p q)) ≡ e
+  nearer-leads l =
+      eqb-true (entry square (g .next p (nearer g square e p q)) (g .next q (nearer g square e p q))) e (first-here leadsTo 0 (g .symbols) (omega arith))
 
 -- whether a trace tells p and q apart
 abbrev pub apartBy : Automaton → (ℕ → ℕ → Bool) → ℕ → ℕ → List ℕ → Bool
 apartBy g ends p q w = ends (run g p w) (run g q w)
 
-pub path-length : (g : Automaton) (d : List ℕ) (e p q : ℕ) → length (path g d e p q) ≡ e
+pub path-length : (g : Automaton) (square : List ℕ) (e p q : ℕ) → length (path g square e p q) ≡ e
 unfolding path
-path-length g d zero p q = refl
-path-length g d (suc e) p q = ap suc (path-length g d e (g .next p (nearer g d e p q)) (g .next q (nearer g d e p q)))
+path-length g square zero p q = refl
+path-length g square (suc e) p q = ap suc (path-length g square e (g .next p (nearer g square e p q)) (g .next q (nearer g square e p q)))
 
-module _ {g : Automaton} {ends : ℕ → ℕ → Bool} {d : List ℕ} (c : Closed g) (s : Squared g ends d) where
+module _ {g : Automaton} {ends : ℕ → ℕ → Bool} {square : List ℕ} (c : Closed g) (s : Squared g ends square) where
   noted-after : (p q a : ℕ) → p < g .states → q < g .states → a < g .symbols
-      → Noted (Tells g ends (g .next p a) (g .next q a)) (entry d (g .next p a) (g .next q a))
+      → Noted (Tells g ends (g .next p a) (g .next q a)) (entry square (g .next p a) (g .next q a))
   noted-after p q a lp lq la = s .noted (g .next p a) (g .next q a) (c .next-in p a lp la) (c .next-in q a lq la)
 
   -- after a symbol at most one fewer is needed
-  pub entry-after : (p q a : ℕ) → p < g .states → q < g .states → a < g .symbols → entry d p q ≤ suc (entry d (g .next p a) (g .next q a))
+  pub entry-after : (p q a : ℕ) → p < g .states → q < g .states → a < g .symbols → entry square p q ≤ suc (entry square (g .next p a) (g .next q a))
   entry-after p q a lp lq la =
       let here = s .noted p q lp lq in
       let there = noted-after p q a lp lq la in
       ⊎-elim
       (λ l. (let w = there .found l in omega (arith, w .long, noted-least here (a ∷ w .word) (tells-step g ends p q a (w .word) la (w .has)))))
       (λ l. omega (arith, here .most))
-      (lt-or-le (entry d (g .next p a) (g .next q a)) never)
+      (lt-or-le (entry square (g .next p a) (g .next q a)) never)
 
-  pub squared-falls : Falling g d
+  pub squared-falls : Falling g square
   squared-falls = record { falls = λ p q e lp lq h l. (let w = s .noted p q lp lq .found (omega arith) in go p q e lp lq h (w .word) (w .long ∙ h) (w .has)) }
     where
-      go : (p q e : ℕ) → p < g .states → q < g .states → entry d p q ≡ suc e → (w : List ℕ) → length w ≡ suc e → Tells g ends p q w
-          → nearer g d e p q < g .symbols
+      go : (p q e : ℕ) → p < g .states → q < g .states → entry square p q ≡ suc e → (w : List ℕ) → length w ≡ suc e → Tells g ends p q w
+          → nearer g square e p q < g .symbols
       go p q e lp lq h [] el t = absurd (omega arith)
       go p q e lp lq h (a ∷ w) el t =
           let r = tells-rest g ends p q a w t in
           let least = noted-least (noted-after p q a lp lq (r .0)) w (r .1) in
-          lt-of-le-of-lt (nearer-least g d e p q a (omega (arith, least, entry-after p q a lp lq (r .0)))) (r .0)
+          lt-of-le-of-lt (nearer-least g square e p q a (omega (arith, least, entry-after p q a lp lq (r .0)))) (r .0)
 
-  pub path-tells : (e p q : ℕ) → p < g .states → q < g .states → entry d p q ≡ e → e < never → Tells g ends p q (path g d e p q)
+  pub path-tells : (e p q : ℕ) → p < g .states → q < g .states → entry square p q ≡ e → e < never → Tells g ends p q (path g square e p q)
   unfolding path
   path-tells zero p q lp lq h l = (let w = s .noted p q lp lq .found (omega arith) in go (w .word) (w .long ∙ h) (w .has))
     where
@@ -97,26 +98,26 @@ module _ {g : Automaton} {ends : ℕ → ℕ → Bool} {d : List ℕ} (c : Close
       go [] el t = t
       go (a ∷ w) el t = absurd (omega arith)
   path-tells (suc e) p q lp lq h l =
-      let a = nearer g d e p q in
+      let a = nearer g square e p q in
       let la : a < g .symbols = squared-falls .falls p q e lp lq h l in
-      tells-step g ends p q a (path g d e (g .next p a) (g .next q a)) la
-      (path-tells e (g .next p a) (g .next q a) (c .next-in p a lp la) (c .next-in q a lq la) (nearer-leads g d e p q la) (omega arith))
+      tells-step g ends p q a (path g square e (g .next p a) (g .next q a)) la
+      (path-tells e (g .next p a) (g .next q a) (c .next-in p a lp la) (c .next-in q a lq la) (nearer-leads g square e p q la) (omega arith))
 
   -- before the nearer symbol, no trace of e symbols tells the two states reached apart
-  nothing-sooner : (e p q a : ℕ) → p < g .states → q < g .states → entry d p q ≡ suc e → a < g .symbols → a < nearer g d e p q
+  nothing-sooner : (e p q a : ℕ) → p < g .states → q < g .states → entry square p q ≡ suc e → a < g .symbols → a < nearer g square e p q
       → (w : List ℕ) → Trace g w → length w ≡ e → apartBy g ends (g .next p a) (g .next q a) w ≡ false
   nothing-sooner e p q a lp lq h la l w t el =
       not-clash (λ b.
       let most = noted-least (noted-after p q a lp lq la) w (record { trace = t; apart = b }) in
-      omega (arith, l, nearer-least g d e p q a (omega (arith, h, el, most, entry-after p q a lp lq la))))
+      omega (arith, l, nearer-least g square e p q a (omega (arith, h, el, most, entry-after p q a lp lq la))))
 
   -- of the traces of e symbols, in order, the path is the first that tells p and q apart
-  pub path-first : (e p q : ℕ) → p < g .states → q < g .states → entry d p q ≡ e → e < never
-      → find (apartBy g ends p q) (words (g .symbols) e) ≡ some (path g d e p q)
+  pub path-first : (e p q : ℕ) → p < g .states → q < g .states → entry square p q ≡ e → e < never
+      → find (apartBy g ends p q) (words (g .symbols) e) ≡ some (path g square e p q)
   unfolding path words find run
   path-first zero p q lp lq h l = rw (tells-ends g ends p q (path-tells zero p q lp lq h l))
   path-first (suc e) p q lp lq h l =
-      let a = nearer g d e p q in
+      let a = nearer g square e p q in
       let la : a < g .symbols = squared-falls .falls p q e lp lq h l in
       find-each (apartBy g ends p q) (g .symbols) (λ b. map (λ (w : List ℕ). b ∷ w) (words (g .symbols) e)) a la
       (λ b lb.
@@ -124,4 +125,4 @@ module _ {g : Automaton} {ends : ℕ → ℕ → Bool} {d : List ℕ} (c : Close
       (find-none (apartBy g ends (g .next p b) (g .next q b)) (words (g .symbols) e)
       (λ w i. (let t = words-in g e w i in nothing-sooner e p q b lp lq h (omega (arith, la, lb)) lb w (t .0) (t .1)))))
       (find-map (apartBy g ends p q) (λ (w : List ℕ). a ∷ w) (words (g .symbols) e)
-      (path-first e (g .next p a) (g .next q a) (c .next-in p a lp la) (c .next-in q a lq la) (nearer-leads g d e p q la) (omega arith)))
+      (path-first e (g .next p a) (g .next q a) (c .next-in p a lp la) (c .next-in q a lq la) (nearer-leads g square e p q la) (omega arith)))

@@ -23,12 +23,12 @@ use Rattle.pairs.proofs.Entries.{stored-size, stored-here, stored-elsew
 
 -- ---- the symbols of one pair
 
-module _ (g : Automaton) (d : List ℕ) (r p q : ℕ) where
+module _ (g : Automaton) (square : List ℕ) (r p q : ℕ) where
   -- symbol a leads to a pair told apart within r
   abbrev pub within : ℕ → Bool
-  within a = leb (entry d (g .next p a) (g .next q a)) r
+  within a = leb (entry square (g .next p a) (g .next q a)) r
 
-  pub within-as : {a x y : ℕ} {b : Bool} → x ≡ g .next p a → y ≡ g .next q a → leb (entry d x y) r ≡ b → within a ≡ b
+  pub within-as : {a x y : ℕ} {b : Bool} → x ≡ g .next p a → y ≡ g .next q a → leb (entry square x y) r ≡ b → within a ≡ b
   within-as ex ey h = rw (← ex, ← ey) h
 
 -- ---- one pair
@@ -109,8 +109,8 @@ module _ (g : Automaton) (ends : ℕ → ℕ → Bool) (r p q : ℕ) where
 -- ---- one round
 
 -- no pair has had the round
-midway-start : {g : Automaton} {ends : ℕ → ℕ → Bool} {r : ℕ} {d : List ℕ} → length d ≡ squareSize
-    → ((p q : ℕ) → p < g .states → q < g .states → Stage g ends r p q (entry d p q)) → Midway g ends r 0 0 d
+midway-start : {g : Automaton} {ends : ℕ → ℕ → Bool} {r : ℕ} {square : List ℕ} → length square ≡ squareSize
+    → ((p q : ℕ) → p < g .states → q < g .states → Stage g ends r p q (entry square p q)) → Midway g ends r 0 0 square
 midway-start e s = record {
   size = e;
   done = λ p q lp lq l. absurd (omega arith);
@@ -121,48 +121,50 @@ midway-start e s = record {
 
 module _ {g : Automaton} (c : Closed g) (m : g .states ≤ stateLimit) {ends : ℕ → ℕ → Bool} {r : ℕ} where
   -- the test of an entry says whether the pair is told apart within r, whether or not the pair has had the round
-  test-told : {i a : ℕ} {d : List ℕ} → Midway g ends r i a d → (p q : ℕ) → p < g .states → q < g .states → leb (entry d p q) r ≡ told g ends r p q
-  test-told {i} {a} {d} w p q lp lq =
+  test-told : {i a : ℕ} {square : List ℕ} → Midway g ends r i a square → (p q : ℕ) → p < g .states → q < g .states
+      → leb (entry square p q) r ≡ told g ends r p q
+  test-told {i} {a} {square} w p q lp lq =
       ⊎-elim
       (λ l. sym (w .done p q lp lq l .agrees r (omega arith)))
       (λ l. sym (w .rest p q lp lq l .agrees r (le-refl r)))
       (lt-or-le (place p q) i)
 
-  leads-told : {i a : ℕ} {d : List ℕ} → Midway g ends r i a d → (p q : ℕ) → p < g .states → q < g .states → leadsWithin g d r p q ≡ leading g ends r p q
-  leads-told {i} {a} {d} w p q lp lq =
-      any-same (g .symbols) (within g d r p q) (onward g ends r p q)
+  leads-told : {i a : ℕ} {square : List ℕ} → Midway g ends r i a square → (p q : ℕ) → p < g .states → q < g .states
+      → leadsWithin g square r p q ≡ leading g ends r p q
+  leads-told {i} {a} {square} w p q lp lq =
+      any-same (g .symbols) (within g square r p q) (onward g ends r p q)
       (λ x l. test-told w (g .next p x) (g .next q x) (c .next-in p x lp l) (c .next-in q x lq l))
 
-  module _ (fits : r + 1 < never) (p q : ℕ) (lp : p < g .states) (lq : q < g .states) {a : ℕ} {d : List ℕ} (w : Midway g ends r (place p q) a d) where
+  module _ (fits : r + 1 < never) (p q : ℕ) (lp : p < g .states) (lq : q < g .states) {a : ℕ} {square : List ℕ} (w : Midway g ends r (place p q) a square) where
     abbrev new : Bool → List ℕ
-    new u = stored d p q (r + 1) u
+    new u = stored square p q (r + 1) u
 
-    elsewhere : (u : Bool) (x y : ℕ) → (place x y ≡ place p q → ⊥) → entry d x y ≡ entry (new u) x y
-    elsewhere u x y ne = sym (stored-elsewhere d (w .size) p q (r + 1) u x y ne)
+    elsewhere : (u : Bool) (x y : ℕ) → (place x y ≡ place p q → ⊥) → entry square x y ≡ entry (new u) x y
+    elsewhere u x y ne = sym (stored-elsewhere square (w .size) p q (r + 1) u x y ne)
 
-    stage-here : Stage g ends r p q (entry d p q)
+    stage-here : Stage g ends r p q (entry square p q)
     stage-here = w .rest p q lp lq (le-refl (place p q))
 
-    leads : leadsWithin g d r p q ≡ leading g ends r p q
+    leads : leadsWithin g square r p q ≡ leading g ends r p q
     leads = leads-told w p q lp lq
 
     none : (u : Bool) → a + cond u 1 0 ≡ 0 → u ≡ false
     none true z = absurd (omega arith)
     none false z = refl
 
-    some : (u : Bool) → adds g d r p q ≡ u → 0 < a + cond u 1 0 → New g ends r
+    some : (u : Bool) → adds g square r p q ≡ u → 0 < a + cond u 1 0 → New g ends r
     some true h z = stage-new g ends r p q fits stage-here leads h lp lq
     some false h z = w .moved (omega arith)
 
     -- p and q have the round
-    turned : Midway g ends r (place p (q + 1)) (a + cond (adds g d r p q) 1 0) (new (adds g d r p q))
+    turned : Midway g ends r (place p (q + 1)) (a + cond (adds g square r p q) 1 0) (new (adds g square r p q))
     turned =
-        let u = adds g d r p q in
+        let u = adds g square r p q in
         record {
-          size = stored-size d (w .size) p q (r + 1) u;
+          size = stored-size square (w .size) p q (r + 1) u;
           done = one-more (λ x y. Stage g ends (suc r) x y (entry (new u) x y)) (g .states) p q m lq
               (λ x y lx ly l. subst (Stage g ends (suc r) x y) (elsewhere u x y (λ h. omega arith)) (w .done x y lx ly l))
-              (subst (Stage g ends (suc r) p q) (sym (stored-here d (w .size) p q (r + 1) (omega arith) (omega arith) u))
+              (subst (Stage g ends (suc r) p q) (sym (stored-here square (w .size) p q (r + 1) (omega arith) (omega arith) u))
               (stage-next g ends r p q fits stage-here leads));
           rest = λ x y lx ly l. subst (Stage g ends r x y) (elsewhere u x y (λ h. omega arith)) (w .rest x y lx ly (omega arith));
           still = λ z. one-more (λ x y. told g ends (suc r) x y ≡ told g ends r x y) (g .states) p q m lq (w .still (omega arith))
@@ -170,11 +172,12 @@ module _ {g : Automaton} (c : Closed g) (m : g .states ≤ stateLimit) {ends : �
           moved = some u refl;
         }
 
-    pub midway-turn : {u : Bool} {b : ℕ} {e : List ℕ} → u ≡ adds g d r p q → b ≡ a + cond u 1 0 → e ≡ new u → Midway g ends r (place p (q + 1)) b e
+    pub midway-turn : {u : Bool} {b : ℕ} {e : List ℕ} → u ≡ adds g square r p q → b ≡ a + cond u 1 0 → e ≡ new u → Midway g ends r (place p (q + 1)) b e
     midway-turn h l k = rw (k, l, h) turned
 
   -- row p has had the round
-  pub midway-row : (p q : ℕ) {a : ℕ} {d : List ℕ} → Midway g ends r (place p q) a d → q ≤ g .states → g .states ≤ q → Midway g ends r ((p + 1) * stateLimit) a d
+  pub midway-row : (p q : ℕ) {a : ℕ} {square : List ℕ} → Midway g ends r (place p q) a square → q ≤ g .states → g .states ≤ q
+      → Midway g ends r ((p + 1) * stateLimit) a square
   midway-row p q w u e = record {
     size = w .size;
     done = λ x y lx ly l. w .done x y lx ly (row-done (g .states) p q x y m e ly l);
@@ -185,11 +188,11 @@ module _ {g : Automaton} (c : Closed g) (m : g .states ≤ stateLimit) {ends : �
 
   -- ---- all pairs have had the round
 
-  module _ {b : ℕ} {d : List ℕ} (w : Midway g ends r (g .states * stateLimit) b d) where
-    whole : (p q : ℕ) → p < g .states → q < g .states → Stage g ends (suc r) p q (entry d p q)
+  module _ {b : ℕ} {square : List ℕ} (w : Midway g ends r (g .states * stateLimit) b square) where
+    whole : (p q : ℕ) → p < g .states → q < g .states → Stage g ends (suc r) p q (entry square p q)
     whole p q lp lq = w .done p q lp lq (omega arith)
 
-    pub midway-next : Midway g ends (r + 1) 0 0 d
+    pub midway-next : Midway g ends (r + 1) 0 0 square
     midway-next = rw (add-one r) (midway-start (w .size) whole)
 
     -- a round that adds something is no later than the n * n-th
@@ -215,34 +218,34 @@ module _ {g : Automaton} (c : Closed g) (m : g .states ≤ stateLimit) {ends : �
     -- a round that added nothing: the square is finished
     module _ (fits : r + 1 < never) (z : b ≤ 0) where
       module _ (p q : ℕ) (lp : p < g .states) (lq : q < g .states) where
-        entry-told : (v : List ℕ) → Tells g ends p q v → entry d p q ≤ r
+        entry-told : (v : List ℕ) → Tells g ends p q v → entry square p q ≤ r
         entry-told v t =
-            leb-true (entry d p q) r (sym (whole p q lp lq .agrees r (omega arith))
+            leb-true (entry square p q) r (sym (whole p q lp lq .agrees r (omega arith))
             ∙ still-ever g ends c r (length v) p q (λ x y lx ly. w .still (omega arith) x y lx ly (omega arith)) lp lq
             (told-complete g ends (length v) p q v (le-refl (length v)) t))
 
-        entry-least : (v : List ℕ) → Tells g ends p q v → entry d p q ≤ length v
+        entry-least : (v : List ℕ) → Tells g ends p q v → entry square p q ≤ length v
         entry-least v t =
             ⊎-elim
             (λ (l : r < length v). omega (arith, entry-told v t))
-            (λ l. leb-true (entry d p q) (length v)
+            (λ l. leb-true (entry square p q) (length v)
             (sym (whole p q lp lq .agrees (length v) (omega arith)) ∙ told-complete g ends (length v) p q v (le-refl (length v)) t))
             (lt-or-le r (length v))
 
-        shortest : entry d p q ≤ suc r → Shortest (Tells g ends p q) (entry d p q)
+        shortest : entry square p q ≤ suc r → Shortest (Tells g ends p q) (entry square p q)
         shortest l =
-            let f = told-sound g ends (entry d p q) p q
-            (whole p q lp lq .agrees (entry d p q) l ∙ le-leb (entry d p q) (entry d p q) (le-refl (entry d p q))) in
+            let f = told-sound g ends (entry square p q) p q
+            (whole p q lp lq .agrees (entry square p q) l ∙ le-leb (entry square p q) (entry square p q) (le-refl (entry square p q))) in
             record { word = f .word; has = f .tells; long = omega (arith, f .short, entry-least (f .word) (f .tells)); least = entry-least }
 
-        entry-noted : Noted (Tells g ends p q) (entry d p q)
+        entry-noted : Noted (Tells g ends p q) (entry square p q)
         entry-noted = record {
           most = ⊎-elim (λ l. omega (arith, l)) (λ h. omega (arith, h)) (whole p q lp lq .known);
           found = λ l. shortest (⊎-elim (λ h. h) (λ h. absurd (omega arith)) (whole p q lp lq .known));
           none = λ h v t. omega (arith, entry-told v t);
         }
 
-      pub squared : Squared g ends d
+      pub squared : Squared g ends square
       squared = record { size = w .size; noted = entry-noted }
 
 -- ---- before the first round
@@ -251,11 +254,12 @@ at-zero : (e : ℕ) → eqb e 0 ≡ leb e 0
 at-zero zero = refl
 at-zero (suc e) = eqb·suc-zero e ∙ sym (leb·suc-zero e)
 
-pub midway-first : {g : Automaton} {d : List ℕ} → Fresh (g .states) d → Midway g (apartAtOnce d) 0 0 0 d
+pub midway-first : {g : Automaton} {square : List ℕ} → Fresh (g .states) square → Midway g (apartAtOnce square) 0 0 0 square
 unfolding told
-midway-first {g} {d} f =
+midway-first {g} {square} f =
     midway-start (f .size) (λ p q lp lq. record {
-      agrees = λ s l. (let z : 0 ≡ s = omega arith in subst (λ (x : ℕ). told g (apartAtOnce d) x p q ≡ leb (entry d p q) x) z (at-zero (entry d p q)));
+      agrees = λ s l. (let z : 0 ≡ s = omega arith in
+          subst (λ (x : ℕ). told g (apartAtOnce square) x p q ≡ leb (entry square p q) x) z (at-zero (entry square p q)));
       known = ⊎-elim (λ h. inl (omega arith)) (λ h. inr h) (f .either p q lp lq);
     })
 
@@ -264,11 +268,12 @@ pub few-rounds : {n : ℕ} → n ≤ stateLimit → n * n ≤ squareSize
 few-rounds m = mul-le-mul m m
 
 -- only the test on states matters
-pub squared-same : {g : Automaton} {f h : ℕ → ℕ → Bool} {d : List ℕ} → Closed g → ((p q : ℕ) → p < g .states → q < g .states → f p q ≡ h p q) → Squared g f d
-    → Squared g h d
-squared-same {g} {f} {h} {d} c e s = record { size = s .size; noted = λ p q lp lq. noted p q lp lq (s .noted p q lp lq) }
+pub squared-same : {g : Automaton} {f h : ℕ → ℕ → Bool} {square : List ℕ} → Closed g → ((p q : ℕ) → p < g .states → q < g .states → f p q ≡ h p q)
+    → Squared g f square
+    → Squared g h square
+squared-same {g} {f} {h} {square} c e s = record { size = s .size; noted = λ p q lp lq. noted p q lp lq (s .noted p q lp lq) }
   where
-    noted : (p q : ℕ) → p < g .states → q < g .states → Noted (Tells g f p q) (entry d p q) → Noted (Tells g h p q) (entry d p q)
+    noted : (p q : ℕ) → p < g .states → q < g .states → Noted (Tells g f p q) (entry square p q) → Noted (Tells g h p q) (entry square p q)
     noted p q lp lq x = record {
       most = x .most;
       found = λ l. (let y = x .found l in
