@@ -14,35 +14,35 @@ use Rattle.theory.specs.Lists.{find, each}
 use Rattle.theory.specs.Faults.{FaultStep, kinds, seconds, holds, steps}
 use Rattle.theory.proofs.Below.{lt-or-le}
 use Rattle.faults.specs.declared.Cursor.{Cursor}
-use Rattle.faults.specs.Rest.{stepWith, stepsFrom, stepsIfHeld, onward, between, stepsOnward, Placed, stepAt, rest}
+use Rattle.faults.specs.Rest.{stepWith, stepsFrom, stepsIfHeld, following, between, stepsOnward, Placed, stepAt, rest}
 use Rattle.faults.proofs.ByKind.{second-some}
 
 -- ---- the lists of numbers from one on
 
 module _ {A : Type 0} (f : ℕ → List A) where
-  onward-more : (c i : ℕ) → onward (suc c) i f ≡ onward c i f ++ f (i + c)
-  unfolding onward
-  onward-more zero i = (let e : i + 0 ≡ i = omega arith in rw e (append-nil (f i)))
-  onward-more (suc c) i =
+  following-more : (c i : ℕ) → following (suc c) i f ≡ following c i f ++ f (i + c)
+  unfolding following
+  following-more zero i = (let e : i + 0 ≡ i = omega arith in rw e (append-nil (f i)))
+  following-more (suc c) i =
       let e : i + suc c ≡ suc i + c = omega arith in
-      rw (e, append-assoc (f i) (onward c (suc i) f) (f (suc i + c))) (ap (λ (xs : List A). f i ++ xs) (onward-more c (suc i)))
+      rw (e, append-assoc (f i) (following c (suc i) f) (f (suc i + c))) (ap (λ (xs : List A). f i ++ xs) (following-more c (suc i)))
 
-  each-onward : (n : ℕ) → each n f ≡ onward n 0 f
-  unfolding each onward
-  each-onward zero = refl
-  each-onward (suc n) =
+  each-following : (n : ℕ) → each n f ≡ following n 0 f
+  unfolding each following
+  each-following zero = refl
+  each-following (suc n) =
       let e : 0 + n ≡ n = omega arith in
-      ap (λ (xs : List A). xs ++ f n) (each-onward n) ∙ ap (λ (j : ℕ). onward n 0 f ++ f j) (sym e) ∙ sym (onward-more n 0)
+      ap (λ (xs : List A). xs ++ f n) (each-following n) ∙ ap (λ (j : ℕ). following n 0 f ++ f j) (sym e) ∙ sym (following-more n 0)
 
   pub each-between : (n : ℕ) → each n f ≡ between 0 n f
-  each-between n = (let e : n - 0 ≡ n = omega arith in rw e (each-onward n))
+  each-between n = (let e : n - 0 ≡ n = omega arith in rw e (each-following n))
 
   pub between-first : {i n : ℕ} → i < n → between i n f ≡ f i ++ between (i + 1) n f
-  unfolding onward
+  unfolding following
   between-first {i} {n} l = (let e : n - i ≡ suc (n - suc i) = omega arith in rw (add-one i, e))
 
   pub between-none : {i n : ℕ} → n ≤ i → between i n f ≡ []
-  unfolding onward
+  unfolding following
   between-none {i} {n} l = (let e : n - i ≡ 0 = omega arith in rw e)
 
 -- ---- the parts of the rest

@@ -25,13 +25,13 @@ stepsIfHeld set k rank = cond (holds set rank) (stepsOfKind k rank) []
 
 module _ {A : Type 0} where
   -- c lists one after the other: those of i, i + 1, ..
-  unfoldable pub onward : ℕ → ℕ → (ℕ → List A) → List A
-  onward zero i f = []
-  onward (suc c) i f = f i ++ onward c (suc i) f
+  unfoldable pub following : ℕ → ℕ → (ℕ → List A) → List A
+  following zero i f = []
+  following (suc c) i f = f i ++ following c (suc i) f
 
   -- the lists of i, i + 1, .. n - 1, one after the other
   abbrev pub between : ℕ → ℕ → (ℕ → List A) → List A
-  between i n f = onward (n - i) i f
+  between i n f = following (n - i) i f
 
 -- the fault steps of the set from this rank on
 abbrev pub stepsOnward : ℕ → ℕ → ℕ → List FaultStep
