@@ -17,7 +17,7 @@ use Rattle.monitor.specs.declared.Opened.the-variants as opened
 abbrev pub monitorIn : Shape → RefT (List ℕ) → RefT (List ℕ) → Monitor
 monitorIn t marks nexts = tableOf (t .states) (t .symbols) (t .start) (now marks) (now nexts)
 
--- that it is the table of some accepted body
+-- that it is well formed, as the table of an accepted body is
 abbrev pub TableIn : Shape → RefT (List ℕ) → RefT (List ℕ) → Type 0
 TableIn t marks nexts = Table stateLimit (t .states) (t .symbols) (t .start) (now marks) (now nexts)
 
