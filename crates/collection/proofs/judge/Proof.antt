@@ -6,7 +6,7 @@ use native.Mathlib.Nat.{zero-add}
 use borrow.Author.Needs.{needs}
 use borrow.Author.Tests.{le-leb, lt-leb, eq-eqb, ne-eqb}
 use Rattle.theory.specs.Answer.{Question, asks}
-use Rattle.collection.specs.Contents.{countOf, startOfBody, ruleOf, question23, question24, question25, collectionAnswer}
+use Rattle.collection.specs.Contents.{rises, countOf, startOfBody, ruleOf, question23, question24, question25, collectionAnswer}
 use Rattle.collection.proofs.Order.{found-at, found-one, found-none}
 use Rattle.collection.proofs.judge.Statement.{statement}
 use Rattle.collection.proofs.judge.Tie as tie
@@ -29,7 +29,9 @@ four : (c : tie.After-first-no2)
     Left file (question24 file ∷ question25 file ∷ []))
 four c =
     let count = c .before .before .before .before .before .two-bytes-at .ensures .0 in
-    three (c .before .before) ∙ rw (found-none _ count (c .before .before .first-no .ensures) (c .before .if4 .left))
+    three (c .before .before)
+    ∙ rw (found-none (rises (ruleOf (c .before .before .before .before .before .before .before .before .args .file .now))) count
+    (c .before .before .first-no .ensures) (c .before .if4 .left))
 
 five : (c : tie.After-start-of-body)
     → (let file = c .before .before .before .before .before .before .before .before .before .before .args .file .now in
