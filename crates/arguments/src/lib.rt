@@ -1,13 +1,14 @@
 // A program's arguments: decimal numbers of any length, and words.
 ghost use mathlib.Core.Path.{_≡_};
+ghost use Rattle.io.specs.Counts.{Counts};
 ghost use Rattle.arguments.specs.Numbers.{isDigit, decimalOf};
 
 // A greater number is answered as this one. No question accepts a number near it, and ten times it and a digit more fit
 // a usize.
 const CAP: usize = 1_000_000_000_000_000_000;
 
-// One byte more than the longest argument that Linux hands over.
-const ROOM: usize = 131072;
+// A space of as many bytes holds every argument that Linux hands over.
+pub const ROOM: usize = 131072;
 
 pub enum Decimal {
     NotANumber,
@@ -43,22 +44,22 @@ pub fn read_decimal(text: &[u8]) -> Decimal
     Decimal::Number(number)
 }
 
-// The program's argument i as a number. A missing one is none.
-pub fn number_at(i: usize) -> Decimal {
-    let mut space = [0u8; ROOM];
-    let length = os::arg(i, &mut space);
-    if os::errno() != 0 {
-        return Decimal::NotANumber;
-    }
+// Puts the program's argument i at the start of a space that is lent, and answers its length: 0 where it is missing or
+// longer than the space.
+pub fn fetch(i: usize, space: &mut [u8]) -> usize
+    ensures { λ r. ⌜ Counts r (now (space .exit)) ⌝ }
+{
+    os::arg(i, space)
+}
+
+// The program's argument i as a number. One that is missing or longer than the space is none.
+pub fn number_at(i: usize, space: &mut [u8]) -> Decimal {
+    let length = os::arg(i, space);
     read_decimal(&space[..length])
 }
 
-// Whether the program's argument i is this word. A missing one is no word.
-pub fn is_word(i: usize, word: &[u8]) -> bool {
-    let mut space = [0u8; ROOM];
-    let length = os::arg(i, &mut space);
-    if os::errno() != 0 {
-        return false;
-    }
+// Whether the program's argument i is this word. One that is missing or longer than the space is no word.
+pub fn is_word(i: usize, word: &[u8], space: &mut [u8]) -> bool {
+    let length = os::arg(i, space);
     check::same(&space[..length], word)
 }

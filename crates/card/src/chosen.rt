@@ -1,5 +1,7 @@
 // Which rules the arguments ask for: those that they name, or all if there is no argument.
+use crate::page::Page;
 use arguments::Decimal;
+use output::Output;
 
 // The first number that is too great for a rule. It stands for all greater ones too.
 const BEYOND: usize = 65536;
@@ -13,8 +15,8 @@ pub fn unread() -> u8 {
 }
 
 // Argument i as one of these numbers.
-fn number_at(i: usize) -> Decimal {
-    let Decimal::Number(number) = arguments::number_at(i) else {
+fn number_at(i: usize, space: &mut [u8]) -> Decimal {
+    let Decimal::Number(number) = arguments::number_at(i, space) else {
         return Decimal::NotANumber;
     };
     Decimal::Number(basics::least_of(number, BEYOND))
@@ -27,11 +29,11 @@ fn mark(wanted: &mut [u8], number: usize) {
 }
 
 // Marks what the arguments ask for. Answers whether every argument is a number.
-pub fn read_arguments(wanted: &mut [u8]) -> bool {
+pub fn read_arguments(wanted: &mut [u8], space: &mut [u8]) -> bool {
     let count = os::arg_count();
     let mut i = 1;
     while i < count {
-        let Decimal::Number(number) = number_at(i) else {
+        let Decimal::Number(number) = number_at(i, space) else {
             return false;
         };
         mark(wanted, number);
@@ -51,40 +53,36 @@ pub fn take(wanted: &mut [u8], number: usize) -> bool {
 }
 
 // The line of a number that is wanted and has no card.
-fn missing(number: usize) {
+fn missing(out: Output, number: usize) -> Output {
     if number == BEYOND {
-        printing::text(b"rule numbers go up to 65535\n");
-        return;
+        return out.text(b"rule numbers go up to 65535\n");
     }
-    printing::text(b"rule ");
-    printing::number(number);
-    printing::text(b": not in the collection\n");
+    out.text(b"rule ")
+        .number(number)
+        .text(b": not in the collection\n")
 }
 
-// Prints a line for argument i if it is still wanted, after an empty line where gap says so. Answers whether the
-// empty line is still to come.
-fn missing_line(wanted: &mut [u8], i: usize, gap: bool) -> bool {
-    let Decimal::Number(number) = number_at(i) else {
-        return gap;
+// Prints this line for argument i if it is still wanted.
+fn missing_line(page: Page, wanted: &mut [u8], i: usize, space: &mut [u8]) -> Page {
+    let Decimal::Number(number) = number_at(i, space) else {
+        return page;
     };
     if !take(wanted, number) {
-        return gap;
+        return page;
     }
-    if gap {
-        printing::text(b"\n");
+    Page {
+        out: missing(page.part(), number),
+        parted: false,
     }
-    missing(number);
-    false
 }
 
-// These lines, once for each number, in the order of the arguments, with an empty line between the cards and the
-// first of them.
-pub fn missing_lines(wanted: &mut [u8], cards: bool) {
+// These lines, once for each number, in the order of the arguments.
+pub fn missing_lines(page: Page, wanted: &mut [u8], space: &mut [u8]) {
     let count = os::arg_count();
-    let mut gap = cards;
+    let mut after = page;
     let mut i = 1;
     while i < count {
-        gap = missing_line(wanted, i, gap);
+        after = missing_line(after, wanted, i, space);
         i += 1;
     }
 }

@@ -1,6 +1,7 @@
 // The cards of a collection's rules, for a person. Reads the collection from standard input; arguments name the rules,
 // and with none all are shown.
 mod chosen;
+mod page;
 mod runs;
 mod states;
 mod traces;
@@ -13,126 +14,144 @@ use faults::FaultSet;
 use faults::KINDS;
 use faults::Kind;
 use immunity::Finding;
-use theory::SQUARE_SIZE;
+use immunity::WITNESS_ROOM;
+use input::Input;
+use output::Output;
+use output::Program;
+use page::Page;
 use theory::STATE_LIMIT;
 
-// Room for every witness, by the bound that is proved of them.
-const ROOM: usize = SQUARE_SIZE + STATE_LIMIT + 2;
-
 // The finding under one fault and one reading.
-fn fault(body: &[u8], kind: Kind, domain: usize) {
-    words::fault_name(kind);
-    let mut area = [0u8; ROOM];
+fn fault(out: Output, body: &[u8], kind: Kind, domain: usize) -> Output {
+    let named = words::fault_name(out, kind);
+    let mut area = [0u8; WITNESS_ROOM];
     let set = FaultSet::empty().with(kind).number();
     let finding = immunity::examine(body, set, domain, &mut area);
     let Finding::Vulnerable(witness) = finding else {
-        words::no_witness(finding);
-        return;
+        return words::no_witness(named, finding);
     };
-    traces::draw(basics::part(&area, 0, witness.distance), witness, domain);
+    traces::draw(
+        named,
+        basics::part(&area, 0, witness.distance),
+        witness,
+        domain,
+    )
 }
 
 // Each fault alone, in the written order.
-fn faults_by(body: &[u8], domain: usize) {
+fn faults_by(out: Output, body: &[u8], domain: usize) -> Output {
+    let mut after = out;
     let mut rank = 0;
     while rank < KINDS {
-        fault(body, faults::kind_at(rank), domain);
+        after = fault(after, body, faults::kind_at(rank), domain);
         rank += 1;
     }
+    after
+}
+
+// How many of the states are reached.
+fn count_reached(out: Output, states: usize, reached: usize) -> Output {
+    if reached == states {
+        return out.text(b"all");
+    }
+    out.number(reached)
 }
 
 // The states, those reached, and the messages.
-fn sizes(body: &[u8], reached: usize) {
-    let n = basics::byte_at(body, 0);
-    printing::text(b"  ");
-    words::counted(n, b" state");
-    printing::text(b", ");
-    if reached == n {
-        printing::text(b"all");
-    } else {
-        printing::number(reached);
-    }
-    printing::text(b" reached from start ");
-    printing::number(basics::byte_at(body, 2));
-    printing::text(b", ");
-    words::counted(basics::byte_at(body, 1), b" message");
-    printing::text(b"\n");
+fn sizes(out: Output, body: &[u8], reached: usize) -> Output {
+    let states = basics::byte_at(body, 0);
+    let counted = words::counted(out.text(b"  "), states, b" state").text(b", ");
+    let begun = count_reached(counted, states, reached)
+        .text(b" reached from start ")
+        .number(basics::byte_at(body, 2))
+        .text(b", ");
+    words::counted(begun, basics::byte_at(body, 1), b" message").text(b"\n")
 }
 
-fn card(rule: usize, body: &[u8]) {
-    printing::text(b"rule ");
-    printing::number(rule);
-    printing::text(b": ");
+fn card(out: Output, rule: usize, body: &[u8]) -> Output {
+    let headed = out.text(b"rule ").number(rule).text(b": ");
     let mut area = [0u8; STATE_LIMIT];
     match classes::classify(body, &mut area) {
-        Classification::Refused(r) => words::body_refusal(r),
+        Classification::Refused(r) => words::body_refusal(headed, r),
         Classification::Classified {
             monitorability,
             reached,
         } => {
-            words::monitorability(monitorability);
-            printing::text(b"\n");
-            sizes(body, reached);
-            states::class_lines(basics::part(&area, 0, basics::byte_at(body, 0)));
-            printing::text(b"by marks\n");
-            faults_by(body, 3);
-            printing::text(b"by classes\n");
-            faults_by(body, 6);
+            let judged = words::monitorability(headed, monitorability).text(b"\n");
+            let sized = sizes(judged, body, reached);
+            let classes = basics::part(&area, 0, basics::byte_at(body, 0));
+            let classed = states::class_lines(sized, classes);
+            let marked = faults_by(classed.text(b"by marks\n"), body, 3);
+            faults_by(marked.text(b"by classes\n"), body, 6)
         }
     }
 }
 
-// The cards of the rules that are asked for, with an empty line between two. Answers whether there were any.
-fn cards(file: &[u8], count: usize, wanted: &mut [u8]) -> bool {
-    let mut shown = false;
+// The cards of the rules that are asked for, with an empty line between two.
+fn cards(page: Page, file: &[u8], count: usize, wanted: &mut [u8]) -> Page {
+    let mut after = page;
     let mut i = 0;
     while i < count {
         let rule = collection::rule_number(file, i);
         if chosen::take(wanted, rule) {
-            if shown {
-                printing::text(b"\n");
-            }
-            card(rule, collection::body(file, i));
-            shown = true;
+            after = Page {
+                out: card(after.part(), rule, collection::body(file, i)),
+                parted: true,
+            };
         }
         i += 1;
     }
-    shown
+    after
 }
 
-fn report(file: &[u8], wanted: &mut [u8]) {
-    match collection::judge(file) {
-        Collected::Refused(r) => words::collection_refusal(r),
+// What an empty collection gets instead of cards.
+fn no_rules(out: Output, count: usize) -> Output {
+    if count == 0 {
+        return out.text(b"no rules in the collection\n");
+    }
+    out
+}
+
+// The collection is what is first in the space, so many bytes.
+fn report(out: Output, length: usize, wanted: &mut [u8], space: &mut [u8]) {
+    match collection::judge(basics::part(space, 0, length)) {
+        Collected::Refused(r) => words::collection_refusal(out, r),
         Collected::Accepted { count } => {
-            if count == 0 {
-                printing::text(b"no rules in the collection\n");
-            }
-            let shown = cards(file, count, wanted);
-            chosen::missing_lines(wanted, shown);
+            let page = Page {
+                out: no_rules(out, count),
+                parted: false,
+            };
+            let shown = cards(page, basics::part(space, 0, length), count, wanted);
+            chosen::missing_lines(shown, wanted, space);
         }
+    }
+}
+
+fn answer(out: Output, wanted: &mut [u8], space: &mut [u8]) {
+    match input::read(Program::Card, space) {
+        Input::Whole { length } => report(out, length, wanted, space),
+        Input::TooLong => {
+            let refusal = Refusal {
+                number: 26,
+                place: 0,
+            };
+            words::collection_refusal(out, refusal);
+        }
+        Input::Failed => {}
     }
 }
 
 fn main() {
+    let out = output::standard(Program::Card);
+    let mut space = [0u8; arguments::ROOM];
+    if arguments::is_word(1, b"--help", &mut space) {
+        words::help(out);
+        return;
+    }
     let mut wanted = [chosen::unread(); chosen::NUMBERS];
-    if !chosen::read_arguments(&mut wanted) {
-        io::write_all(
-            libc::STDERR_FILENO,
-            b"usage: card [RULE..], with a collection on standard input\n",
-        );
-        return;
+    if chosen::read_arguments(&mut wanted, &mut space) {
+        answer(out, &mut wanted, &mut space);
+    } else {
+        words::usage();
     }
-    let mut space = [0u8; input::SIZE];
-    let length = io::read_full(libc::STDIN_FILENO, &mut space);
-    if length > input::LIMIT {
-        words::collection_refusal(Refusal {
-            number: 26,
-            place: 0,
-        });
-        return;
-    }
-    if input::fails(b"card") {
-        return;
-    }
-    report(&space[..length], &mut wanted);
 }

@@ -6,6 +6,7 @@ use faults::Fault;
 use faults::Kind;
 use faults::Symbols;
 use immunity::Witness;
+use output::Output;
 ghost use Prim.Native.Nat.{_≤_, _<_};
 ghost use lib.ListN.{length};
 
@@ -20,39 +21,46 @@ fn has_two_digits(symbols: Symbols) -> bool {
 }
 
 // A message in a column of two digits or one.
-fn message(m: usize, wide: bool) {
+fn message(out: Output, m: usize, wide: bool) -> Output {
     if wide {
         if m < 10 {
-            printing::text(b" ");
+            return out.text(b" ").number(m);
         }
     }
-    printing::number(m);
+    out.number(m)
 }
 
-fn no_message(wide: bool) {
+fn no_message(out: Output, wide: bool) -> Output {
     if wide {
-        printing::text(b" ");
+        return out.text(b"  ");
     }
-    printing::text(b" ");
+    out.text(b" ")
+}
+
+// The first of the messages that a fault covers or delivers, if it has one.
+fn first_of(out: Output, symbols: Symbols, wide: bool) -> Output {
+    if symbols.count == 0 {
+        return no_message(out, wide);
+    }
+    message(out, symbols.first, wide)
+}
+
+// The second of them, where one of the two traces has two.
+fn second_of(out: Output, symbols: Symbols, other: Symbols, wide: bool) -> Output {
+    if symbols.count == 2 {
+        return message(out.text(b" "), symbols.second, wide);
+    }
+    if other.count == 2 {
+        return no_message(out.text(b" "), wide);
+    }
+    out
 }
 
 // The messages that a fault covers or delivers, in columns that the other trace's messages fit too.
-fn bracket(symbols: Symbols, other: Symbols) {
+fn bracket(out: Output, symbols: Symbols, other: Symbols) -> Output {
     let wide = has_two_digits(symbols) | has_two_digits(other);
-    printing::text(b"[");
-    if symbols.count == 0 {
-        no_message(wide);
-    } else {
-        message(symbols.first, wide);
-    }
-    if symbols.count == 2 {
-        printing::text(b" ");
-        message(symbols.second, wide);
-    } else if other.count == 2 {
-        printing::text(b" ");
-        no_message(wide);
-    }
-    printing::text(b"]");
+    let begun = first_of(out.text(b"["), symbols, wide);
+    second_of(begun, symbols, other, wide).text(b"]")
 }
 
 // How many messages from `at` on are written as one item.
@@ -109,22 +117,8 @@ fn item_width(head: &[u8], rest: &[u8], i: usize, size: usize) -> usize
     2
 }
 
-fn item(head: &[u8], rest: &[u8], here: Symbols, other: Symbols, i: usize, size: usize) {
-    printing::text(b" ");
-    if i == head.len() {
-        bracket(here, other);
-        return;
-    }
-    printing::number(message_at(head, rest, i));
-    if size > 1 {
-        printing::text(b" (");
-        printing::number(size);
-        printing::text(b" times)");
-    }
-}
-
-// As many items as a line takes, from a place on. Answers the place where the next line begins.
-fn items(head: &[u8], rest: &[u8], here: Symbols, other: Symbols, from: usize, end: usize) -> usize
+// Where the line that begins at a place ends: as many items as it takes.
+fn line_end(head: &[u8], rest: &[u8], from: usize, end: usize) -> usize
     requires { ⌜ from < end ⌝ }
     ensures { λ r. ⌜ (from < r)
         × (r ≤ end) ⌝ }
@@ -137,77 +131,123 @@ fn items(head: &[u8], rest: &[u8], here: Symbols, other: Symbols, from: usize, e
         if used + width > COLUMNS {
             return i;
         }
-        item(head, rest, here, other, i, size);
         used += width;
         i += size;
     }
     i
 }
 
-// The left margin of a sent trace. In the first line the fault's name stands there already.
-fn sent_margin(from: usize) {
-    if from > 0 {
-        printing::text(b"                  ");
+fn item(
+    out: Output,
+    head: &[u8],
+    rest: &[u8],
+    here: Symbols,
+    other: Symbols,
+    i: usize,
+    size: usize,
+) -> Output {
+    let parted = out.text(b" ");
+    if i == head.len() {
+        return bracket(parted, here, other);
     }
-    printing::text(b"sent     ");
+    let written = parted.number(message_at(head, rest, i));
+    if size > 1 {
+        return written.text(b" (").number(size).text(b" times)");
+    }
+    written
+}
+
+// The items from a place on, up to the line's end.
+fn items(
+    out: Output,
+    head: &[u8],
+    rest: &[u8],
+    here: Symbols,
+    other: Symbols,
+    from: usize,
+    end: usize,
+) -> Output {
+    let mut after = out;
+    let mut i = from;
+    while i < end {
+        let size = basics::least_of(item_size(head, rest, i), end - i);
+        after = item(after, head, rest, here, other, i, size);
+        i += size;
+    }
+    after
+}
+
+// The left margin of a sent trace. In the first line the fault's name stands there already.
+fn sent_margin(out: Output, from: usize) -> Output {
+    if from > 0 {
+        return out.text(b"                  sent     ");
+    }
+    out.text(b"sent     ")
 }
 
 // The left margin of a received trace: the distance in the first line.
-fn received_margin(w: Witness, from: usize) {
-    if from == 0 {
-        printing::text(b"    distance ");
-        words::three_columns(w.distance);
-        printing::text(b"  ");
-    } else {
-        printing::text(b"                  ");
+fn received_margin(out: Output, w: Witness, from: usize) -> Output {
+    if from > 0 {
+        return out.text(b"                  received ");
     }
-    printing::text(b"received ");
+    words::three_columns(out.text(b"    distance "), w.distance).text(b"  received ")
 }
 
 // The end of a line: the reading, or a sign that the trace goes on.
-fn line_end(last: bool, domain: usize, reading: usize) {
+fn line_close(out: Output, last: bool, domain: usize, reading: usize) -> Output {
     if last {
-        printing::text(b"  ");
-        words::reading_word(domain, reading);
-    } else {
-        printing::text(b" ..");
+        return words::reading_word(out.text(b"  "), domain, reading).text(b"\n");
     }
-    printing::text(b"\n");
+    out.text(b" ..\n")
 }
 
-// A line of the sent trace and one of the received trace, from a place on. Answers the place where the next lines
-// begin.
+// A line of the sent trace and one of the received trace, from a place up to another; the drawing ends at `end`.
 fn two_lines(
+    out: Output,
     head: &[u8],
     rest: &[u8],
     fault: Fault,
     w: Witness,
     from: usize,
+    to: usize,
     end: usize,
     domain: usize,
-) -> usize
-    requires { ⌜ from < end ⌝ }
-    ensures { λ r. ⌜ (from < r)
-        × (r ≤ end) ⌝ }
-{
-    sent_margin(from);
-    let to = items(head, rest, fault.sent, fault.received, from, end);
-    line_end(to == end, domain, w.sent);
-    received_margin(w, from);
-    items(head, rest, fault.received, fault.sent, from, end);
-    line_end(to == end, domain, w.received);
-    to
+) -> Output {
+    let sent = items(
+        sent_margin(out, from),
+        head,
+        rest,
+        fault.sent,
+        fault.received,
+        from,
+        to,
+    );
+    let between = received_margin(line_close(sent, to == end, domain, w.sent), w, from);
+    let received = items(between, head, rest, fault.received, fault.sent, from, to);
+    line_close(received, to == end, domain, w.received)
 }
 
-fn lines(head: &[u8], rest: &[u8], fault: Fault, w: Witness, end: usize, domain: usize) {
+fn lines(
+    out: Output,
+    head: &[u8],
+    rest: &[u8],
+    fault: Fault,
+    w: Witness,
+    end: usize,
+    domain: usize,
+) -> Output {
+    let mut after = out;
     let mut from = 0;
     while from < end {
-        from = two_lines(head, rest, fault, w, from, end, domain);
+        let to = line_end(head, rest, from, end);
+        after = two_lines(after, head, rest, fault, w, from, to, end, domain);
+        from = to;
     }
+    after
 }
 
 // The replacement of a witness, or the neighbour of the first message that the fault covers.
-fn second_of(sent: &[u8], w: Witness) -> usize
+fn second_symbol(sent: &[u8], w: Witness) -> usize
     requires { ⌜ w .before < length (now sent) ⌝ }
 {
     let at = w.before;
@@ -226,11 +266,11 @@ fn fault_of(sent: &[u8], w: Witness) -> Fault
 {
     let at = w.before;
     let kind = w.kind;
-    faults::fault_of(kind, basics::byte_at(sent, at), second_of(sent, w))
+    faults::fault_of(kind, basics::byte_at(sent, at), second_symbol(sent, w))
 }
 
 // The witness whose sent trace is given. Both tests hold of every witness.
-pub fn draw(sent: &[u8], w: Witness, domain: usize) {
+pub fn draw(out: Output, sent: &[u8], w: Witness, domain: usize) -> Output {
     let before = w.before;
     if before < sent.len() {
         let fault = fault_of(sent, w);
@@ -238,7 +278,8 @@ pub fn draw(sent: &[u8], w: Witness, domain: usize) {
         if covered <= sent.len() - before {
             let head = &sent[0..before];
             let rest = &sent[before + covered..];
-            lines(head, rest, fault, w, before + 1 + rest.len(), domain);
+            return lines(out, head, rest, fault, w, before + 1 + rest.len(), domain);
         }
     }
+    out
 }

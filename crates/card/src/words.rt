@@ -1,142 +1,117 @@
-// The words of a card: refusals, monitorability, faults and readings.
+// The words of a card: refusals, monitorability, faults and readings; and what the program says of itself.
 use basics::Refusal;
 use faults::Kind;
 use immunity::Finding;
+use output::Output;
 
-// The no to a question of a body, in words: 1 to 8. The last line is never used, since the areas here are as long as
-// any answer.
-fn body_question(number: usize) {
-    match number {
-        1 => printing::text(b"shorter than 3 bytes"),
-        2 => printing::text(b"the number of states is not from 1 to 64"),
-        3 => printing::text(b"the number of messages is not from 1 to 16"),
-        4 => printing::text(b"not as long as its states and messages ask for"),
-        5 => printing::text(b"the start is none of the states"),
-        6 => printing::text(b"a mark that is not 0, 1 or 2"),
-        7 => printing::text(b"a next state that is none of the states"),
-        8 => printing::text(b"a state marked true or false steps to one marked otherwise"),
-        _ => printing::text(b"the answer does not fit"),
-    }
+pub fn usage() {
+    output::error_text(
+        b"usage: card [RULE..], with a collection on standard input; card --help says more\n",
+    );
+}
+
+pub fn help(out: Output) {
+    out.text(
+            b"card reads a collection from standard input and prints a card for each rule, or for the rules that\n",
+        )
+        .text(
+            b"are its arguments: the classes of the states, and under each link fault, by marks and by classes,\n",
+        )
+        .text(
+            b"whether the rule is immune or the shortest trace that the fault harms, as sent and as received.\n",
+        )
+        .text(b"Brackets show what the fault strikes.\n\n")
+        .text(b"Example: card 20 < samples/sample.collection\n")
+        .text(b"docs/FORMAT.md explains the words and the numbers.\n");
 }
 
 // What the place of a refused body counts.
-fn body_place(number: usize) {
+fn body_place(out: Output, number: usize) -> Output {
     match number {
-        1 => printing::text(b" at length "),
-        4 => printing::text(b" at length "),
-        _ => printing::text(b" at byte "),
+        1 => out.text(b" at length "),
+        4 => out.text(b" at length "),
+        _ => out.text(b" at byte "),
     }
 }
 
-pub fn body_refusal(r: Refusal) {
-    printing::text(b"refused ");
-    printing::number(r.number);
-    body_place(r.number);
-    printing::number(r.place);
-    printing::text(b" (");
-    body_question(r.number);
-    printing::text(b")\n");
-}
-
-// The no to a question of a collection, in words: 20 to 26.
-fn collection_question(number: usize) {
-    match number {
-        20 => printing::text(b"shorter than 2 bytes"),
-        21 => printing::text(b"more than 512 rules"),
-        22 => printing::text(b"not all entries are there"),
-        23 => printing::text(b"a rule number not above the one before"),
-        24 => printing::text(b"a body that does not start right behind what comes before it"),
-        25 => printing::text(b"the file does not end with its last body"),
-        _ => printing::text(b"longer than 65,536 bytes"),
-    }
-}
-
-fn at_entry(place: usize) {
-    printing::text(b" at entry ");
-    printing::number(place);
-    printing::text(b", counting from 0");
+pub fn body_refusal(out: Output, r: Refusal) -> Output {
+    let begun = body_place(out.text(b"refused ").number(r.number), r.number);
+    printing::reason(begun.number(r.place).text(b" ("), r.number).text(b")\n")
 }
 
 // The place, for the two questions that ask of each entry.
-fn entry_place(number: usize, place: usize) {
+fn entry_place(out: Output, number: usize, place: usize) -> Output {
     match number {
-        23 => at_entry(place),
-        24 => at_entry(place),
-        _ => {}
+        23 | 24 => out.text(b" at entry ")
+            .number(place)
+            .text(b", counting from 0"),
+        _ => out,
     }
 }
 
-pub fn collection_refusal(r: Refusal) {
-    printing::text(b"collection refused ");
-    printing::number(r.number);
-    entry_place(r.number, r.place);
-    printing::text(b" (");
-    collection_question(r.number);
-    printing::text(b")\n");
+pub fn collection_refusal(out: Output, r: Refusal) {
+    let begun = out.text(b"collection refused ").number(r.number);
+    let placed = entry_place(begun, r.number, r.place);
+    printing::reason(placed.text(b" ("), r.number).text(b")\n");
 }
 
-pub fn monitorability(m: usize) {
-    printing::monitorability_word(m);
+pub fn monitorability(out: Output, m: usize) -> Output {
+    let word = printing::monitorability_word(out, m);
     match m {
-        0 => printing::text(b" (true can be found, false cannot)"),
-        1 => printing::text(b" (false can be found, true cannot)"),
-        2 => printing::text(b" (true and false can be found)"),
-        _ => printing::text(b" (an ugly state is reached: no verdict from there on)"),
+        0 => word.text(b" (true can be found, false cannot)"),
+        1 => word.text(b" (false can be found, true cannot)"),
+        2 => word.text(b" (true and false can be found)"),
+        _ => word.text(b" (an ugly state is reached: no verdict from there on)"),
     }
 }
 
 // A number, and spaces up to three columns.
-pub fn three_columns(n: usize) {
-    printing::number(n);
-    if n < 100 {
-        printing::text(b" ");
-    }
+pub fn three_columns(out: Output, n: usize) -> Output {
+    let written = out.number(n);
     if n < 10 {
-        printing::text(b" ");
+        return written.text(b"  ");
     }
+    if n < 100 {
+        return written.text(b" ");
+    }
+    written
 }
 
 // The name of a fault, up to the column where its finding begins.
-pub fn fault_name(kind: Kind) {
+pub fn fault_name(out: Output, kind: Kind) -> Output {
     match kind {
-        Kind::Loss => printing::text(b"  loss            "),
-        Kind::Corruption => printing::text(b"  corruption      "),
-        Kind::Repeat => printing::text(b"  repeat          "),
-        Kind::Swap => printing::text(b"  swap            "),
+        Kind::Loss => out.text(b"  loss            "),
+        Kind::Corruption => out.text(b"  corruption      "),
+        Kind::Repeat => out.text(b"  repeat          "),
+        Kind::Swap => out.text(b"  swap            "),
     }
 }
 
 // A finding that has no witness.
-pub fn no_witness(finding: Finding) {
+pub fn no_witness(out: Output, finding: Finding) -> Output {
     let Finding::Refused(r) = finding else {
-        printing::text(b"immune\n");
-        return;
+        return out.text(b"immune\n");
     };
-    body_refusal(r);
-}
-
-fn mark_word(mark: usize) {
-    match mark {
-        0 => printing::text(b"not yet"),
-        1 => printing::text(b"true"),
-        _ => printing::text(b"false"),
-    }
+    body_refusal(out, r)
 }
 
 // A reading by its name: a mark in domain 3, a class in domain 6.
-pub fn reading_word(domain: usize, reading: usize) {
-    if domain == 3 {
-        mark_word(reading);
-    } else if reading < 256 {
-        printing::class_word(reading as u8);
+pub fn reading_word(out: Output, domain: usize, reading: usize) -> Output {
+    if domain != 3 {
+        return printing::class_word(out, reading, 0);
+    }
+    match reading {
+        0 => out.text(b"not yet"),
+        1 => out.text(b"true"),
+        _ => out.text(b"false"),
     }
 }
 
 // A number and what it counts, in the singular or the plural.
-pub fn counted(n: usize, noun: &[u8]) {
-    printing::number(n);
-    printing::text(noun);
-    if n != 1 {
-        printing::text(b"s");
+pub fn counted(out: Output, n: usize, noun: &[u8]) -> Output {
+    let singular = out.number(n).text(noun);
+    if n == 1 {
+        return singular;
     }
+    singular.text(b"s")
 }

@@ -1,3 +1,5 @@
+pub mod Answered
 pub mod Entries
+pub mod Found
 pub mod Order
 pub mod Placed

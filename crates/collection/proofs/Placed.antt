@@ -7,12 +7,11 @@ use native.Mathlib.Nat.{le-trans, le-of-eq, le-add-right, zero-add}
 use native.Mathlib.Omega.{arith}
 use lib.ListN.{length, length-take, length-drop}
 use borrow.Author.Tests.{eqb-true, not-false}
-use Rattle.theory.specs.Answer.{answered, asks}
+use Rattle.theory.specs.Answer.{answered}
 use Rattle.theory.proofs.Below.{first-none}
-use Rattle.theory.proofs.Answer.{asks-yes, asks-both}
 use Rattle.collection.proofs.Entries.{starts-later}
-use Rattle.collection.specs.Contents.{countOf, offsetOf, lengthOf, bodyOf, ruleOf, startOfBody, follows, firstNo, question20, question21, question22}
-use Rattle.collection.specs.Contents.{question23, question24, question25, collectionQuestions, collectionAnswer}
+use Rattle.collection.proofs.Answered.{Answered, all-answered}
+use Rattle.collection.specs.Contents.{countOf, offsetOf, lengthOf, bodyOf, startOfBody, follows, collectionAnswer}
 
 -- what holds of entry i: its body starts where it has to, ends in the file, and is all there
 pub record Placed (file : List ℕ) (i : ℕ) : Type 0 where
@@ -21,29 +20,12 @@ pub record Placed (file : List ℕ) (i : ℕ) : Type 0 where
   pub whole : length (bodyOf file i) ≡ lengthOf file i
 
 module _ (file : List ℕ) (accepted : collectionAnswer file ≡ answered (countOf file ∷ [])) where
-  values : asks (collectionQuestions file) (countOf file ∷ []) ≡ answered (countOf file ∷ [])
-  unfolding collectionAnswer
-  values = accepted
-
-  -- what questions 24 and 25 leave
-  record Ends : Type 0 where
-    four : firstNo (follows file) (countOf file) ≡ countOf file
-    five : length file ≡ startOfBody file (countOf file)
-
-  ends : Ends
-  ends =
-      let v = countOf file ∷ [] in
-      let before = question20 file ∷ question21 (countOf file) ∷ question22 file ∷ question23 (ruleOf file) (countOf file) ∷ [] in
-      let q₄ = asks-yes (question24 file) (question25 file ∷ []) v (asks-both before (question24 file ∷ question25 file ∷ []) v values .1) in
-      let q₅ = asks-yes (question25 file) [] v (q₄ .1) in
-      record {
-        four = eqb-true (firstNo (follows file) (countOf file)) (countOf file) (q₄ .0);
-        five = eqb-true (length file) (startOfBody file (countOf file)) (q₅ .0);
-      }
+  left : Answered file
+  left = all-answered file accepted
 
   starts-at : (i : ℕ) → i < countOf file → offsetOf file i ≡ startOfBody file i
   starts-at i h =
-      let none = first-none (λ j. not (follows file j)) 0 (countOf file) i (ends .four ∙ sym (zero-add (countOf file))) zero-le (omega (arith, h)) in
+      let none = first-none (λ j. not (follows file j)) 0 (countOf file) i (left .follow ∙ sym (zero-add (countOf file))) zero-le (omega (arith, h)) in
       eqb-true (offsetOf file i) (startOfBody file i) (not-false (follows file i) none)
 
   -- where body i ends, body i + 1 has to start
@@ -54,7 +36,7 @@ module _ (file : List ℕ) (accepted : collectionAnswer file ≡ answered (count
 
   -- no start lies behind the end of the file
   before-end : (d i : ℕ) → d + i ≡ countOf file → startOfBody file i ≤ length file
-  before-end zero i e = le-of-eq (ap (startOfBody file) (sym (zero-add i) ∙ e) ∙ sym (ends .five))
+  before-end zero i e = le-of-eq (ap (startOfBody file) (sym (zero-add i) ∙ e) ∙ sym (left .end))
   before-end (suc d) i e = le-trans (le-of-eq (sym (starts-at i (omega (arith, e)))))
       (le-trans (le-add-right _ _) (le-trans (le-of-eq (sym (next-start i))) (before-end d (i + 1) (omega (arith, e)))))
 

@@ -10,6 +10,8 @@ use Rattle.basics.specs.Refusals.{refusal}
 use Rattle.monitor.specs.Questions.{ofEach}
 use Rattle.collection.specs.declared.Collected.{Collected}
 use Rattle.collection.specs.declared.Collected.the-variants.{Accepted, Refused}
+use Rattle.collection.specs.declared.Lookup.{Lookup}
+use Rattle.collection.specs.declared.Lookup.the-variants.{Entry, Absent}
 use Rattle.collection.specs.declared.Test.{Test}
 use Rattle.collection.specs.declared.Test.the-variants.{RulesRise, BodiesFollow}
 
@@ -105,6 +107,14 @@ collectionAnswer file = asks (collectionQuestions file) (countOf file ∷ [])
 abbrev pub collected : Collected → Answer
 collected (Accepted count) = answered (count ∷ [])
 collected (Refused r) = refusal r
+
+-- the first of the c entries that has this rule number, from 0; c where none has it
+abbrev pub firstWith : List ℕ → ℕ → ℕ
+firstWith file rule = first (λ i. eqb (ruleOf file i) rule) 0 (countOf file)
+
+-- the entry that has this rule number, if one has it
+abbrev pub entryWith : List ℕ → ℕ → Lookup
+entryWith file rule = cond (ltb (firstWith file rule) (countOf file)) (Entry (firstWith file rule)) Absent
 
 -- ---- layers
 

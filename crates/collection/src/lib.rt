@@ -5,7 +5,7 @@ ghost use Prim.Native.Nat.{_<_};
 ghost use Rattle.theory.specs.Answer.{Answer};
 ghost use Rattle.collection.specs.Contents.{numberAt, entryOf, offsetOf, lengthOf, ruleOf, bodyOf, startOfBody};
 ghost use Rattle.collection.specs.Contents.{rises as Contents·rises, follows as Contents·follows};
-ghost use Rattle.collection.specs.Contents.{firstNo, testOf, collectionAnswer, collected};
+ghost use Rattle.collection.specs.Contents.{firstNo, testOf, collectionAnswer, collected, entryWith};
 
 // The greatest number of entries.
 const ENTRY_LIMIT: usize = 512;
@@ -14,6 +14,12 @@ const ENTRY_LIMIT: usize = 512;
 pub enum Collected {
     Accepted { count: usize },
     Refused(Refusal),
+}
+
+// What looking up a rule answers: its entry, from 0, or that it has none.
+pub enum Lookup {
+    Entry(usize),
+    Absent,
 }
 
 // What an entry is asked: its rule number is greater than the one before, or its body starts where it has to.
@@ -159,4 +165,19 @@ pub fn judge(file: &[u8]) -> Collected
         return refused(25, 0);
     }
     Collected::Accepted { count }
+}
+
+// The entry with this rule number, the first where there are several. In an accepted collection there is one at most.
+pub fn find(file: &[u8], rule: usize) -> Lookup
+    ensures { λ r. ⌜ r ≡ entryWith (now (file .entry)) rule ⌝ }
+{
+    let count = two_bytes_at(file, 0);
+    let mut i = 0;
+    while i < count {
+        if rule_number(file, i) == rule {
+            return Lookup::Entry(i);
+        }
+        i += 1;
+    }
+    Lookup::Absent
 }

@@ -1,36 +1,35 @@
 // The edges of judging, classes, steps and traces, one line each. The stored output has what they must be.
+use output::Output;
+use output::Program;
 ghost use mathlib.Core.Path.{_≡_};
 ghost use lib.ListN.{length};
 
+fn labelled(label: &[u8]) -> Output {
+    output::standard(Program::Test).text(label)
+}
+
 fn judge(label: &[u8], body: &[u8]) {
-    printing::text(label);
-    printing::judgement(monitor::judge(body));
-    printing::text(b"\n");
+    printing::judgement(labelled(label), monitor::judge(body)).text(b"\n");
 }
 
 // The answer, and what the area then holds. Every place of the area is 255 before.
 fn classify(label: &[u8], body: &[u8], room: usize) {
-    printing::text(label);
     let mut area = [255u8; 8];
     if room <= 8 {
         let lent = &mut area[0..room];
-        printing::classification(classes::classify(body, lent));
-        printing::text(b", area");
-        printing::bytes(lent);
+        let out = printing::classification(labelled(label), classes::classify(body, lent));
+        printing::bytes(out.text(b", area"), lent).text(b"\n");
     }
-    printing::text(b"\n");
 }
 
 fn step(label: &[u8], body: &[u8], domain: usize, state: usize, symbol: usize) {
-    printing::text(label);
-    printing::stepped(readings::step(body, domain, state, symbol));
-    printing::text(b"\n");
+    let answer = readings::step(body, domain, state, symbol);
+    printing::stepped(labelled(label), answer).text(b"\n");
 }
 
 fn trace(label: &[u8], body: &[u8], domain: usize, symbols: &[u8]) {
-    printing::text(label);
-    printing::traced(readings::trace(body, domain, symbols));
-    printing::text(b"\n");
+    let answer = readings::trace(body, domain, symbols);
+    printing::traced(labelled(label), answer).text(b"\n");
 }
 
 // Questions 1 to 5.

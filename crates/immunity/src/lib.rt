@@ -225,13 +225,13 @@ pub fn examine(body: &[u8], set: usize, domain: usize, area: &mut [u8]) -> Findi
 }
 
 // As many bytes as the longest witness can have by the bound that is proved.
-const ROOM: usize = SQUARE_SIZE + STATE_LIMIT + 2;
+pub const WITNESS_ROOM: usize = SQUARE_SIZE + STATE_LIMIT + 2;
 
 // An area long enough for every witness.
-fn scratch() -> [u8; ROOM]
+fn scratch() -> [u8; WITNESS_ROOM]
     ensures { λ r. ⌜ length r ≡ horizon stateLimit ⌝ }
 {
-    [0u8; ROOM]
+    [0u8; WITNESS_ROOM]
 }
 
 // The column of a rank: its fault alone, by marks. The sent trace of a witness stays in the area.

@@ -1,50 +1,85 @@
 // Reads a collection from standard input and prints the listing: a header and a line for each entry.
 use collection::Collected;
+use input::Input;
 use lines::Line;
+use output::Output;
+use output::Program;
 
 // The line of a rule; no line is longer than the area.
-fn print_line(rule: usize, body: &[u8]) {
+fn print_line(out: Output, rule: usize, body: &[u8]) -> Output {
     let mut area = [0u8; 256];
     let Line::Written { length } = lines::write_line(rule, body, &mut area) else {
-        return;
+        return out;
     };
-    io::write_all(libc::STDOUT_FILENO, basics::part(&area, 0, length));
+    out.text(basics::part(&area, 0, length))
 }
 
-fn print_lines(file: &[u8], count: usize) {
-    io::write_all(
-        libc::STDOUT_FILENO,
-        b"rule states class loss corruption repeat swap\n",
-    );
+fn print_lines(out: Output, file: &[u8], count: usize) {
+    let mut after = out.text(b"rule states class loss corruption repeat swap\n");
     let mut i = 0;
     while i < count {
-        print_line(collection::rule_number(file, i), collection::body(file, i));
+        let rule = collection::rule_number(file, i);
+        after = print_line(after, rule, collection::body(file, i));
         i += 1;
     }
 }
 
-fn print_refusal(number: usize) {
-    io::write_all(libc::STDOUT_FILENO, b"collection refused ");
-    io::print_decimal(libc::STDOUT_FILENO, number as u64);
-    io::write_all(libc::STDOUT_FILENO, b"\n");
+fn print_refusal(out: Output, number: usize) {
+    out.text(b"collection refused ").number(number).text(b"\n");
 }
 
-fn list(file: &[u8]) {
+fn list(out: Output, file: &[u8]) {
     match collection::judge(file) {
-        Collected::Accepted { count } => print_lines(file, count),
-        Collected::Refused(r) => print_refusal(r.number),
+        Collected::Accepted { count } => print_lines(out, file, count),
+        Collected::Refused(r) => print_refusal(out, r.number),
+    }
+}
+
+fn print_help(out: Output) {
+    out.text(
+            b"listing reads a collection from standard input and prints a line for each rule: the rule's number,\n",
+        )
+        .text(
+            b"its states, its monitorability, and the distance under loss, corruption, repeat and swap by marks,\n",
+        )
+        .text(b"- where it is immune; or refused, a number and a place.\n\n")
+        .text(b"Example: listing < samples/sample.collection\n")
+        .text(b"docs/FORMAT.md explains the words and the numbers.\n");
+}
+
+// What the arguments ask: no argument the listing, `--help` the help.
+enum Asked {
+    Listing,
+    Help,
+    Unclear,
+}
+
+fn read_arguments(space: &mut [u8]) -> Asked {
+    if os::arg_count() < 2 {
+        return Asked::Listing;
+    }
+    if arguments::is_word(1, b"--help", space) {
+        return Asked::Help;
+    }
+    Asked::Unclear
+}
+
+fn answer(out: Output, space: &mut [u8]) {
+    match input::read(Program::Listing, space) {
+        Input::Whole { length } => list(out, basics::part(space, 0, length)),
+        Input::TooLong => print_refusal(out, 26),
+        Input::Failed => {}
     }
 }
 
 fn main() {
+    let out = output::standard(Program::Listing);
     let mut space = [0u8; input::SIZE];
-    let length = io::read_full(libc::STDIN_FILENO, &mut space);
-    if length > input::LIMIT {
-        print_refusal(26);
-        return;
+    match read_arguments(&mut space) {
+        Asked::Listing => answer(out, &mut space),
+        Asked::Help => print_help(out),
+        Asked::Unclear => output::error_text(
+            b"usage: listing, with a collection on standard input; listing --help says more\n",
+        ),
     }
-    if input::fails(b"listing") {
-        return;
-    }
-    list(&space[..length]);
 }

@@ -1,5 +1,5 @@
-// The words and lines that programs print. No contract can say what is written; the output of programs is compared
-// with a stored one.
+// The words of answers and refusals. Each function writes to the output and hands it back. No contract can say what is
+// written; the output of programs is compared with a stored one.
 use basics::Refusal;
 use classes::Classification;
 use collection::Collected;
@@ -7,148 +7,152 @@ use faults::FaultSet;
 use immunity::Finding;
 use immunity::Witness;
 use monitor::Judgement;
+use output::Output;
 use readings::Stepped;
 use readings::Traced;
-ghost use mathlib.Core.Path.{_≡_};
-ghost use Prim.Native.Nat.{_≤_};
-ghost use lib.ListN.{length};
-
-pub fn text(words: &[u8]) {
-    io::write_all(1, words);
-}
-
-pub fn number(n: usize) {
-    io::print_decimal(1, n as u64);
-}
 
 // A refusal, as `refused`, its number and its place.
-pub fn refusal(r: Refusal) {
-    text(b"refused ");
-    number(r.number);
-    text(b" ");
-    number(r.place);
+pub fn refusal(out: Output, r: Refusal) -> Output {
+    out.text(b"refused ")
+        .number(r.number)
+        .text(b" ")
+        .number(r.place)
 }
 
-// A word, and how many columns it takes.
-fn word(letters: &[u8]) -> usize
-    ensures { λ r. ⌜ r ≡ length (now (letters .entry)) ⌝ }
-{
-    text(letters);
-    letters.len()
+// Refusals of a body, and of what is asked of it: 1 to 13.
+fn body_reason(out: Output, number: usize) -> Output {
+    match number {
+        1 => out.text(b"shorter than 3 bytes"),
+        2 => out.text(b"the number of states is not from 1 to 64"),
+        3 => out.text(b"the number of messages is not from 1 to 16"),
+        4 => out.text(b"not as long as its states and messages ask for"),
+        5 => out.text(b"the start is none of the states"),
+        6 => out.text(b"a mark that is not 0, 1 or 2"),
+        7 => out.text(b"a next state that is none of the states"),
+        8 => out.text(b"a state marked true or false steps to one marked otherwise"),
+        9 => out.text(b"the fault set is above 15"),
+        10 => out.text(b"the reading is neither 3 nor 6"),
+        11 => out.text(b"the state asked about is none of the states"),
+        12 => out.text(b"a message that is none of the messages"),
+        13 => out.text(b"the answer does not fit the area lent for it"),
+        _ => out.text(b"no refusal has this number"),
+    }
 }
 
-// The word for a class, and how many columns it takes.
-pub fn class_word(class: u8) -> usize
-    ensures { λ r. ⌜ r ≤ 8 ⌝ }
-{
+// The no that a refusal's number stands for, in words.
+pub fn reason(out: Output, number: usize) -> Output {
+    match number {
+        20 => out.text(b"shorter than 2 bytes"),
+        21 => out.text(b"more than 512 rules"),
+        22 => out.text(b"not all entries are there"),
+        23 => out.text(b"a rule number not above the one before"),
+        24 => out.text(b"a body that does not start right behind what comes before it"),
+        25 => out.text(b"the file does not end with its last body"),
+        26 => out.text(b"longer than 65,536 bytes"),
+        _ => body_reason(out, number),
+    }
+}
+
+// The word for a class, and spaces up to so many columns.
+pub fn class_word(out: Output, class: usize, columns: usize) -> Output {
     match class {
-        0 => word(b"good"),
-        1 => word(b"bad"),
-        2 => word(b"positive"),
-        3 => word(b"negative"),
-        4 => word(b"neutral"),
-        _ => word(b"ugly"),
+        0 => out.padded(b"good", columns),
+        1 => out.padded(b"bad", columns),
+        2 => out.padded(b"positive", columns),
+        3 => out.padded(b"negative", columns),
+        4 => out.padded(b"neutral", columns),
+        _ => out.padded(b"ugly", columns),
     }
 }
 
-pub fn monitorability_word(monitorability: usize) {
+pub fn monitorability_word(out: Output, monitorability: usize) -> Output {
     match monitorability {
-        0 => text(b"pos"),
-        1 => text(b"neg"),
-        2 => text(b"both"),
-        _ => text(b"none"),
+        0 => out.text(b"pos"),
+        1 => out.text(b"neg"),
+        2 => out.text(b"both"),
+        _ => out.text(b"none"),
     }
 }
 
-fn byte(b: u8) {
-    text(b" ");
-    number(b as usize);
+fn byte(out: Output, b: u8) -> Output {
+    out.text(b" ").number(b as usize)
 }
 
 // The bytes as numbers, each after a space.
-pub fn bytes(list: &[u8]) {
+pub fn bytes(out: Output, list: &[u8]) -> Output {
+    let mut after = out;
     let mut i = 0;
     while i < list.len() {
-        byte(list[i]);
+        after = byte(after, list[i]);
         i += 1;
     }
+    after
 }
 
 // The answer of each call.
-pub fn judgement(answer: Judgement) {
+pub fn judgement(out: Output, answer: Judgement) -> Output {
     match answer {
-        Judgement::Accepted => text(b"accepted"),
-        Judgement::Refused(r) => refusal(r),
+        Judgement::Accepted => out.text(b"accepted"),
+        Judgement::Refused(r) => refusal(out, r),
     }
 }
 
-pub fn collected(answer: Collected) {
+pub fn collected(out: Output, answer: Collected) -> Output {
     match answer {
-        Collected::Accepted { count } => {
-            text(b"accepted ");
-            number(count);
-        }
-        Collected::Refused(r) => refusal(r),
+        Collected::Accepted { count } => out.text(b"accepted ").number(count),
+        Collected::Refused(r) => refusal(out, r),
     }
 }
 
-pub fn classification(answer: Classification) {
+pub fn classification(out: Output, answer: Classification) -> Output {
     match answer {
-        Classification::Refused(r) => refusal(r),
+        Classification::Refused(r) => refusal(out, r),
         Classification::Classified {
             monitorability,
             reached,
-        } => {
-            text(b"monitorability ");
-            monitorability_word(monitorability);
-            text(b" reached ");
-            number(reached);
-        }
+        } => monitorability_word(out.text(b"monitorability "), monitorability)
+            .text(b" reached ")
+            .number(reached),
     }
 }
 
-pub fn stepped(answer: Stepped) {
+pub fn stepped(out: Output, answer: Stepped) -> Output {
     match answer {
-        Stepped::Refused(r) => refusal(r),
-        Stepped::To { state, reading } => {
-            text(b"state ");
-            number(state);
-            text(b" reading ");
-            number(reading);
-        }
+        Stepped::Refused(r) => refusal(out, r),
+        Stepped::To { state, reading } => out.text(b"state ")
+            .number(state)
+            .text(b" reading ")
+            .number(reading),
     }
 }
 
-pub fn traced(answer: Traced) {
+pub fn traced(out: Output, answer: Traced) -> Output {
     match answer {
-        Traced::Refused(r) => refusal(r),
-        Traced::Reads { reading } => {
-            text(b"reading ");
-            number(reading);
-        }
+        Traced::Refused(r) => refusal(out, r),
+        Traced::Reads { reading } => out.text(b"reading ").number(reading),
     }
 }
 
-fn witness(w: Witness) {
+fn witness(out: Output, w: Witness) -> Output {
     let kind = w.kind;
-    text(b"vulnerable distance ");
-    number(w.distance);
-    text(b" before ");
-    number(w.before);
-    text(b" kind ");
-    number(FaultSet::bit_of(kind));
-    text(b" replacement ");
-    number(w.replacement);
-    text(b" readings ");
-    number(w.sent);
-    text(b" ");
-    number(w.received);
+    out.text(b"vulnerable distance ")
+        .number(w.distance)
+        .text(b" before ")
+        .number(w.before)
+        .text(b" kind ")
+        .number(FaultSet::bit_of(kind))
+        .text(b" replacement ")
+        .number(w.replacement)
+        .text(b" readings ")
+        .number(w.sent)
+        .text(b" ")
+        .number(w.received)
 }
 
-pub fn finding(answer: Finding) {
+pub fn finding(out: Output, answer: Finding) -> Output {
     match answer {
-        Finding::Refused(r) => refusal(r),
-        Finding::Immune => text(b"immune"),
-        Finding::Vulnerable(w) => witness(w),
+        Finding::Refused(r) => refusal(out, r),
+        Finding::Immune => out.text(b"immune"),
+        Finding::Vulnerable(w) => witness(out, w),
     }
 }

@@ -2,66 +2,74 @@
 // A question is a frame: the length of what follows in two bytes, least byte first; the call; three numbers, a byte
 // each; and the call's bytes.
 use lines::Line;
+use output::Output;
+use output::Program;
 ghost use Prim.Native.Nat.{_+_, _≤_, _<_};
 ghost use lib.ListN.{length};
 
 // Call 1: the first number is the length of the area, which is full of 255 before the call.
-fn classify(room: usize, body: &[u8]) {
+fn classify(out: Output, room: usize, body: &[u8]) -> Output {
     let mut area = [255u8; 256];
     if room <= 256 {
         let lent = &mut area[0..room];
-        printing::classification(classes::classify(body, lent));
-        printing::bytes(lent);
+        let answered = printing::classification(out, classes::classify(body, lent));
+        return printing::bytes(answered, lent);
     }
+    out
 }
 
 // Call 3, and every number that names no other call: the numbers are the reading and the length of the trace, which
 // stands before the body.
-fn trace(domain: usize, length: usize, bytes: &[u8]) {
+fn trace(out: Output, domain: usize, length: usize, bytes: &[u8]) -> Output {
     if length <= bytes.len() {
-        printing::traced(readings::trace(&bytes[length..], domain, &bytes[0..length]));
+        let answer = readings::trace(&bytes[length..], domain, &bytes[0..length]);
+        return printing::traced(out, answer);
     }
+    out
 }
 
 // Call 4: the numbers are the fault set, the reading and the length of the area, which is full of 255 before the call.
-fn examine(set: usize, domain: usize, room: usize, body: &[u8]) {
+fn examine(out: Output, set: usize, domain: usize, room: usize, body: &[u8]) -> Output {
     let mut area = [255u8; 256];
     if room <= 256 {
         let lent = &mut area[0..room];
-        printing::finding(immunity::examine(body, set, domain, lent));
-        printing::bytes(lent);
+        let answered = printing::finding(out, immunity::examine(body, set, domain, lent));
+        return printing::bytes(answered, lent);
     }
+    out
 }
 
 // Call 5: the card, as the listing's line of rule 0 has it between the rule number and the line feed.
-fn card(body: &[u8]) {
+fn card(out: Output, body: &[u8]) -> Output {
     let mut area = [0u8; 256];
     let Line::Written { length } = lines::write_line(0, body, &mut area) else {
-        return;
+        return out;
     };
     if length >= 3 {
-        printing::text(basics::part(&area, 2, length - 3));
+        return out.text(basics::part(&area, 2, length - 3));
+    }
+    out
+}
+
+// The answer to a frame that has its numbers.
+fn answered(out: Output, frame: &[u8], bytes: &[u8]) -> Output {
+    let a = basics::byte_at(frame, 1);
+    let b = basics::byte_at(frame, 2);
+    let c = basics::byte_at(frame, 3);
+    match basics::byte_at(frame, 0) {
+        0 => printing::judgement(out, monitor::judge(bytes)),
+        1 => classify(out, a, bytes),
+        2 => printing::stepped(out, readings::step(bytes, a, b, c)),
+        4 => examine(out, a, b, c, bytes),
+        5 => card(out, bytes),
+        _ => trace(out, a, b, bytes),
     }
 }
 
 fn answer(frame: &[u8]) {
-    if frame.len() < 4 {
-        return;
+    if frame.len() >= 4 {
+        answered(output::standard(Program::Test), frame, &frame[4..]).text(b"\n");
     }
-    let call = frame[0];
-    let a = basics::byte_at(frame, 1);
-    let b = basics::byte_at(frame, 2);
-    let c = basics::byte_at(frame, 3);
-    let bytes = &frame[4..];
-    match call {
-        0 => printing::judgement(monitor::judge(bytes)),
-        1 => classify(a, bytes),
-        2 => printing::stepped(readings::step(bytes, a, b, c)),
-        4 => examine(a, b, c, bytes),
-        5 => card(bytes),
-        _ => trace(a, b, bytes),
-    }
-    printing::text(b"\n");
 }
 
 fn wide(byte: u8) -> usize

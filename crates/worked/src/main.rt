@@ -2,23 +2,27 @@
 use faults::FaultSet;
 use faults::Kind;
 use lines::Line;
+use output::Output;
+use output::Program;
+
+fn named(name: &[u8]) -> Output {
+    output::standard(Program::Test).text(name)
+}
 
 // The finding, and what the area then holds. Every place of the area is 255 before.
 fn example(name: &[u8], body: &[u8], set: usize, domain: usize, room: usize) {
-    printing::text(name);
-    printing::text(b", set ");
-    printing::number(set);
-    printing::text(b", reading ");
-    printing::number(domain);
-    printing::text(b": ");
+    let asked = named(name)
+        .text(b", set ")
+        .number(set)
+        .text(b", reading ")
+        .number(domain)
+        .text(b": ");
     let mut area = [255u8; 4];
     if room <= 4 {
         let lent = &mut area[0..room];
-        printing::finding(immunity::examine(body, set, domain, lent));
-        printing::text(b", area");
-        printing::bytes(lent);
+        let answered = printing::finding(asked, immunity::examine(body, set, domain, lent));
+        printing::bytes(answered.text(b", area"), lent).text(b"\n");
     }
-    printing::text(b"\n");
 }
 
 fn both(name: &[u8], body: &[u8], set: usize) {
@@ -28,13 +32,12 @@ fn both(name: &[u8], body: &[u8], set: usize) {
 
 // The card, as the listing's line of rule 0 has it behind the rule number.
 fn card(name: &[u8], body: &[u8]) {
-    printing::text(name);
-    printing::text(b", card: ");
     let mut area = [0u8; 256];
     let Line::Written { length } = lines::write_line(0, body, &mut area) else {
         return;
     };
-    printing::text(basics::part(basics::part(&area, 0, length), 2, 256));
+    let line = basics::part(basics::part(&area, 0, length), 2, 256);
+    named(name).text(b", card: ").text(line);
 }
 
 // Each fault alone, and the card.
@@ -51,9 +54,7 @@ fn table(name: &[u8], body: &[u8]) {
 }
 
 fn trace(name: &[u8], body: &[u8], symbols: &[u8]) {
-    printing::text(name);
-    printing::traced(readings::trace(body, 3, symbols));
-    printing::text(b"\n");
+    printing::traced(named(name), readings::trace(body, 3, symbols)).text(b"\n");
 }
 
 fn tables() {

@@ -1,15 +1,15 @@
 -- `faults_by` ends.
 use Prim.Native.Nat.{_-_}
-use borrow.Author.Needs.{needs}
 use Rattle.theory.specs.Faults.{kinds}
+use borrow.Author.Needs.{needs}
 use Rattle.card.proofs.faults_by.Statement.{statement}
 use Rattle.card.proofs.faults_by.Tie as tie
 
 abbrev Inv-loop : tie.InvT-loop
-Inv-loop body domain rank₀ rank = Unit {0}
+Inv-loop body domain after₀ rank₀ after rank = Unit {0}
 
 abbrev μ-loop : tie.MeasureT-loop
-μ-loop body domain rank₀ rank = kinds - rank
+μ-loop body domain after₀ rank₀ after rank = kinds - rank
 
 pub faults-by-spec : {M : Type 1} → statement M
 faults-by-spec =

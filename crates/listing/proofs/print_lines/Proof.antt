@@ -5,10 +5,10 @@ use Rattle.listing.proofs.print_lines.Statement.{statement}
 use Rattle.listing.proofs.print_lines.Tie as tie
 
 abbrev Inv-loop : tie.InvT-loop
-Inv-loop file count i₀ i = Unit {0}
+Inv-loop file count after₀ i₀ after i = Unit {0}
 
 abbrev μ-loop : tie.MeasureT-loop
-μ-loop file count i₀ i = count - i
+μ-loop file count after₀ i₀ after i = count - i
 
 pub print-lines-spec : {M : Type 1} → statement M
 print-lines-spec =

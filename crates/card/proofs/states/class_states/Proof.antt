@@ -6,10 +6,10 @@ use Rattle.card.proofs.states.class_states.Statement.{statement}
 use Rattle.card.proofs.states.class_states.Tie as tie
 
 abbrev Inv-loop : tie.InvT-loop
-Inv-loop classes class used₀ q₀ used q = used < 100
+Inv-loop classes class row₀ q₀ row q = row .used < 100
 
 abbrev μ-loop : tie.MeasureT-loop
-μ-loop classes class used₀ q₀ used q = length classes - q
+μ-loop classes class row₀ q₀ row q = length classes - q
 
 pub class-states-spec : {M : Type 1} → statement M
 class-states-spec =

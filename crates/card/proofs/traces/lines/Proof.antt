@@ -5,13 +5,13 @@ use Rattle.card.proofs.traces.lines.Statement.{statement}
 use Rattle.card.proofs.traces.lines.Tie as tie
 
 abbrev Inv-loop : tie.InvT-loop
-Inv-loop head rest fault w end domain from₀ from = Unit
+Inv-loop head rest fault w end domain after₀ from₀ after from = Unit {0}
 
 abbrev μ-loop : tie.MeasureT-loop
-μ-loop head rest fault w end domain from₀ from = end - from
+μ-loop head rest fault w end domain after₀ from₀ after from = end - from
 
 pub lines-spec : {M : Type 1} → statement M
 lines-spec =
     tie.close (tie.spec
-    Inv-loop μ-loop (λ c. search needs) (λ c κs. search needs) (λ c. search needs) (λ c. search needs)
-    (λ c. search needs))
+    Inv-loop μ-loop (λ c. search needs) (λ c κs. search needs) (λ c κs. search needs) (λ c. search needs)
+    (λ c. search needs) (λ c. search needs))

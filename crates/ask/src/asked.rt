@@ -1,0 +1,252 @@
+// What the arguments ask.
+use arguments::Decimal;
+ghost use mathlib.Core.Path.{_≡_};
+ghost use Prim.Native.Nat.{_≤_, min};
+
+// The greatest number of messages in a trace: more than Linux hands over as arguments by its default limit of two
+// million bytes.
+pub const MESSAGE_LIMIT: usize = 262144;
+
+// What a form is asked of: the body on standard input, the body of a rule of the collection there, or that collection
+// itself, which is only judged.
+pub enum Subject {
+    Body,
+    Rule(usize),
+    Collection,
+}
+
+// A question about a body, with its numbers. The messages of a trace are the last arguments, so many.
+pub enum Form {
+    Judge,
+    Classes {
+        room: usize,
+    },
+    Step {
+        domain: usize,
+        state: usize,
+        symbol: usize,
+    },
+    Trace {
+        domain: usize,
+        count: usize,
+    },
+    Fault {
+        set: usize,
+        domain: usize,
+        room: usize,
+    },
+}
+
+pub enum Asked {
+    Help,
+    Why { number: usize },
+    Form { subject: Subject, form: Form },
+    Unclear,
+}
+
+// The words that begin a question or a form.
+enum Word {
+    Help,
+    Why,
+    Rule,
+    Collection,
+    Judge,
+    Classes,
+    Step,
+    Trace,
+    Fault,
+    Other,
+}
+
+fn form_word(text: &[u8]) -> Word {
+    if check::same(text, b"judge") {
+        return Word::Judge;
+    }
+    if check::same(text, b"classes") {
+        return Word::Classes;
+    }
+    if check::same(text, b"step") {
+        return Word::Step;
+    }
+    if check::same(text, b"trace") {
+        return Word::Trace;
+    }
+    if check::same(text, b"fault") {
+        return Word::Fault;
+    }
+    Word::Other
+}
+
+fn word_of(text: &[u8]) -> Word {
+    if check::same(text, b"--help") {
+        return Word::Help;
+    }
+    if check::same(text, b"why") {
+        return Word::Why;
+    }
+    if check::same(text, b"rule") {
+        return Word::Rule;
+    }
+    if check::same(text, b"collection") {
+        return Word::Collection;
+    }
+    form_word(text)
+}
+
+fn word_at(i: usize, space: &mut [u8]) -> Word {
+    let length = arguments::fetch(i, space);
+    word_of(&space[..length])
+}
+
+fn judge_asked(subject: Subject, behind: usize) -> Asked {
+    if behind != 0 {
+        return Asked::Unclear;
+    }
+    let form = Form::Judge;
+    Asked::Form { subject, form }
+}
+
+// The other forms. Their numbers are the arguments from `at` on; so many stand there.
+fn classes_asked(subject: Subject, at: usize, behind: usize, space: &mut [u8]) -> Asked {
+    if behind != 1 {
+        return Asked::Unclear;
+    }
+    let Decimal::Number(room) = arguments::number_at(at, space) else {
+        return Asked::Unclear;
+    };
+    let form = Form::Classes { room };
+    Asked::Form { subject, form }
+}
+
+fn step_asked(subject: Subject, at: usize, behind: usize, space: &mut [u8]) -> Asked
+    requires { ⌜ at ≤ 4 ⌝ }
+{
+    if behind != 3 {
+        return Asked::Unclear;
+    }
+    let Decimal::Number(domain) = arguments::number_at(at, space) else {
+        return Asked::Unclear;
+    };
+    let Decimal::Number(state) = arguments::number_at(at + 1, space) else {
+        return Asked::Unclear;
+    };
+    let Decimal::Number(symbol) = arguments::number_at(at + 2, space) else {
+        return Asked::Unclear;
+    };
+    let form = Form::Step {
+        domain,
+        state,
+        symbol,
+    };
+    Asked::Form { subject, form }
+}
+
+fn trace_asked(subject: Subject, at: usize, behind: usize, space: &mut [u8]) -> Asked {
+    if behind == 0 {
+        return Asked::Unclear;
+    }
+    let Decimal::Number(domain) = arguments::number_at(at, space) else {
+        return Asked::Unclear;
+    };
+    let form = Form::Trace {
+        domain,
+        count: behind - 1,
+    };
+    Asked::Form { subject, form }
+}
+
+fn fault_asked(subject: Subject, at: usize, behind: usize, space: &mut [u8]) -> Asked
+    requires { ⌜ at ≤ 4 ⌝ }
+{
+    if behind != 3 {
+        return Asked::Unclear;
+    }
+    let Decimal::Number(set) = arguments::number_at(at, space) else {
+        return Asked::Unclear;
+    };
+    let Decimal::Number(domain) = arguments::number_at(at + 1, space) else {
+        return Asked::Unclear;
+    };
+    let Decimal::Number(room) = arguments::number_at(at + 2, space) else {
+        return Asked::Unclear;
+    };
+    let form = Form::Fault { set, domain, room };
+    Asked::Form { subject, form }
+}
+
+// The form of this word.
+fn form_asked(word: Word, subject: Subject, at: usize, behind: usize, space: &mut [u8]) -> Asked
+    requires { ⌜ at ≤ 4 ⌝ }
+{
+    match word {
+        Word::Judge => judge_asked(subject, behind),
+        Word::Classes => classes_asked(subject, at, behind, space),
+        Word::Step => step_asked(subject, at, behind, space),
+        Word::Trace => trace_asked(subject, at, behind, space),
+        Word::Fault => fault_asked(subject, at, behind, space),
+        _ => Asked::Unclear,
+    }
+}
+
+// The form that is asked of a rule: argument 2 is the rule and 3 the form's word.
+fn rule_asked(count: usize, space: &mut [u8]) -> Asked {
+    if count < 4 {
+        return Asked::Unclear;
+    }
+    let Decimal::Number(rule) = arguments::number_at(2, space) else {
+        return Asked::Unclear;
+    };
+    let word = word_at(3, space);
+    form_asked(word, Subject::Rule(rule), 4, count - 4, space)
+}
+
+fn why_asked(count: usize, space: &mut [u8]) -> Asked {
+    if count != 3 {
+        return Asked::Unclear;
+    }
+    let Decimal::Number(number) = arguments::number_at(2, space) else {
+        return Asked::Unclear;
+    };
+    Asked::Why { number }
+}
+
+// Reads the arguments, one after the other, into a space that is lent.
+pub fn read(space: &mut [u8]) -> Asked {
+    let count = os::arg_count();
+    if count < 2 {
+        return Asked::Unclear;
+    }
+    let word = word_at(1, space);
+    match word {
+        Word::Help => Asked::Help,
+        Word::Why => why_asked(count, space),
+        Word::Rule => rule_asked(count, space),
+        Word::Collection => judge_asked(Subject::Collection, count - 2),
+        _ => form_asked(word, Subject::Body, 2, count - 2, space),
+    }
+}
+
+// The byte of a message. A greater number becomes 255, which is no message of any table either.
+fn message_byte(number: usize) -> u8
+    ensures { λ r. ⌜ r ≡ min number 255 ⌝ }
+{
+    if number < 255 { number as u8 } else { 255 }
+}
+
+// Fills the area with the program's last arguments. Answers whether there are so many and all are numbers.
+pub fn read_messages(area: &mut [u8], space: &mut [u8]) -> bool {
+    let count = os::arg_count();
+    if count < area.len() {
+        return false;
+    }
+    let first = count - area.len();
+    let mut i = 0;
+    while i < area.len() {
+        let Decimal::Number(message) = arguments::number_at(first + i, space) else {
+            return false;
+        };
+        area[i] = message_byte(message);
+        i += 1;
+    }
+    true
+}

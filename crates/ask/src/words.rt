@@ -1,0 +1,43 @@
+// What the program says of itself.
+use output::Output;
+use output::Program;
+
+// A wrong form: one line on standard error.
+pub fn usage() {
+    output::error_text(b"usage: ask [rule RULE] judge | classes AREA | step READING STATE MESSAGE");
+    output::error_text(b" | trace READING MESSAGE.. | fault SET READING AREA, or ask collection,");
+    output::error_text(
+        b" ask why NUMBER; the body or collection on standard input; ask --help says more\n",
+    );
+}
+
+fn forms(out: Output) -> Output {
+    out.text(
+            b"ask answers one question on one line. The table's body is read from standard input:\n",
+        )
+        .text(b"  ask judge                        accepted, or refused\n")
+        .text(
+            b"  ask classes AREA                 monitorability, states reached, the class of each state\n",
+        )
+        .text(b"  ask step READING STATE MESSAGE   the next state and its reading\n")
+        .text(b"  ask trace READING MESSAGE..      the reading after these messages\n")
+        .text(b"  ask fault SET READING AREA       immune, or vulnerable with the first witness\n")
+        .text(b"Or a collection is:\n")
+        .text(
+            b"  ask rule RULE FORM..             one of these forms, judge to fault, for a rule's body\n",
+        )
+        .text(b"  ask collection                   accepted and the number of rules, or refused\n")
+        .text(b"Nothing is read:\n")
+        .text(b"  ask why NUMBER                   what the number of a refusal stands for\n")
+}
+
+pub fn help() {
+    forms(output::standard(Program::Ask))
+        .text(
+            b"\nA reading is 3 (marks) or 6 (classes); a set is the sum of loss 1, corruption 2, repeat 4, swap 8;\n",
+        )
+        .text(b"AREA is the number of bytes lent for the answer, and 5000 is always enough.\n")
+        .text(b"A refusal is the word refused, a number and a place.\n\n")
+        .text(b"Example: ask rule 20 fault 8 3 3 < samples/sample.collection\n")
+        .text(b"docs/FORMAT.md explains the bytes, the numbers and the answers.\n");
+}

@@ -1,0 +1,59 @@
+-- Looking up a rule: the scan through the entries finds it; and in an accepted collection it finds every entry again.
+use mathlib.Core.Path.{_≡_, refl, sym, ap, subst, _∙_}
+use mathlib.Core.Bool.{not, false}
+use mathlib.Core.List.{List, [], _∷_}
+use Prim.Native.Nat.{ℕ, zero, suc, _+_, _-_, _≤_, _<_, zero-le}
+use native.Mathlib.Nat.{zero-add, lt-trans}
+use native.Mathlib.Omega.{arith}
+use lib.Dec.{eqb}
+use borrow.Author.Tests.{eq-eqb, ne-eqb, lt-ltb, le-ltb, ltb-true, not-false}
+use Rattle.theory.specs.Answer.{answered}
+use Rattle.theory.proofs.Below.{first-none}
+use Rattle.theory.proofs.Scan.{Passed, scan-finds, scan-ends}
+use Rattle.collection.proofs.Answered.{all-answered}
+use Rattle.collection.proofs.Entries.{rises-later}
+use Rattle.collection.specs.declared.Lookup.the-variants.{Entry, Absent}
+use Rattle.collection.specs.Contents.{countOf, ruleOf, rises, firstWith, entryWith, collectionAnswer}
+
+-- the scan has reached entry i
+module _ (file : List ℕ) (rule : ℕ) {count i : ℕ} (e : count ≡ countOf file) (p : Passed (λ j. eqb (ruleOf file j) rule) 0 count i) where
+  within : Passed (λ j. eqb (ruleOf file j) rule) 0 (countOf file) i
+  within = subst (λ (c : ℕ). Passed (λ j. eqb (ruleOf file j) rule) 0 c i) e p
+
+  pub found : i < count → ruleOf file i ≡ rule → Entry i ≡ entryWith file rule
+  found h f =
+      let g : i ≡ firstWith file rule = scan-finds within (eq-eqb (ruleOf file i) rule f) in
+      let l : i < countOf file = omega (arith, e, h) in
+      rw (← g, lt-ltb i (countOf file) l)
+
+  pub absent : count ≤ i → Absent ≡ entryWith file rule
+  absent h =
+      let l : countOf file ≤ i = omega (arith, e, h) in
+      let g : i ≡ firstWith file rule = scan-ends within (omega (arith, l)) in
+      rw (← g, le-ltb i (countOf file) l)
+
+module _ (file : List ℕ) (accepted : collectionAnswer file ≡ answered (countOf file ∷ [])) where
+  -- each rule number is greater than the one before
+  next-rises : (i : ℕ) → i + 1 < countOf file → ruleOf file i < ruleOf file (i + 1)
+  next-rises i h =
+      let none = first-none (λ j. not (rises (ruleOf file) j)) 0 (countOf file) (i + 1) (all-answered file accepted .rise ∙ sym (zero-add (countOf file))) zero-le (omega (arith, h)) in
+      let e : i + 1 - 1 ≡ i = omega arith in
+      let later = rises-later file (i + 1) (λ (q : _≡_ {A = ℕ} (i + 1) 0). omega arith) (ap (ruleOf file) (sym e)) refl in
+      ltb-true (ruleOf file i) (ruleOf file (i + 1)) (later ∙ not-false (rises (ruleOf file) (i + 1)) none)
+
+  rules-rise : (d i : ℕ) → d + i + 1 < countOf file → ruleOf file i < ruleOf file (d + i + 1)
+  rules-rise zero i h = rw (zero-add i) (next-rises i (omega (arith, h)))
+  rules-rise (suc d) i h =
+      let e : suc d + i ≡ d + i + 1 = omega arith in
+      rw (e) (lt-trans (rules-rise d i (omega (arith, h))) (next-rises (d + i + 1) (omega (arith, h))))
+
+  others : (i : ℕ) → i < countOf file → (j : ℕ) → j < i → eqb (ruleOf file j) (ruleOf file i) ≡ false
+  others i h j l =
+      let e : i - (j + 1) + j + 1 ≡ i = omega (arith, l) in
+      let less : ruleOf file j < ruleOf file i = subst (λ (k : ℕ). ruleOf file j < ruleOf file k) e (rules-rise (i - (j + 1)) j (omega (arith, e, h))) in
+      ne-eqb (ruleOf file j) (ruleOf file i) (λ q. omega (arith, q, less))
+
+  -- looking up an entry's rule number finds that entry
+  pub found-again : (i : ℕ) → i < countOf file → entryWith file (ruleOf file i) ≡ Entry i
+  found-again i h =
+      sym (found file (ruleOf file i) refl record { from = zero-le; upto = omega (arith, h); fails = λ j g l. others i h j l } h refl)

@@ -1,0 +1,85 @@
+// Standard output of the programs, and the lines that they write to standard error.
+
+// Who writes. The name begins each line on standard error.
+pub enum Program {
+    Listing,
+    Card,
+    Ask,
+    Test,
+}
+
+// Standard output. After a write that failed nothing more is written; standard error has told it.
+pub struct Output {
+    program: Program,
+    failed: bool,
+}
+
+// Words for standard error. Where that cannot be written, nobody is left to tell.
+pub fn error_text(words: &[u8]) {
+    io::write_all(libc::STDERR_FILENO, words);
+}
+
+fn error_name(program: Program) {
+    match program {
+        Program::Listing => error_text(b"listing: "),
+        Program::Card => error_text(b"card: "),
+        Program::Ask => error_text(b"ask: "),
+        Program::Test => error_text(b"test: "),
+    }
+}
+
+// A line on standard error: the program, what failed, and the system's words for it.
+pub fn failure(program: Program, what: &[u8]) {
+    error_name(program);
+    os::fail(what);
+}
+
+// A line on standard error: the program, and what is wrong.
+pub fn complaint(program: Program, what: &[u8]) {
+    error_name(program);
+    error_text(what);
+    error_text(b"\n");
+}
+
+// The output of a program, nothing written yet.
+pub fn standard(program: Program) -> Output {
+    Output {
+        program,
+        failed: false,
+    }
+}
+
+impl Output {
+    // Writes the words, unless a write has failed before.
+    pub fn text(self, words: &[u8]) -> Output {
+        if self.failed {
+            return self;
+        }
+        if io::write_all(libc::STDOUT_FILENO, words) {
+            return self;
+        }
+        let program = self.program;
+        failure(program, b"standard output");
+        Output {
+            program,
+            failed: true,
+        }
+    }
+
+    // Writes the number in decimal.
+    pub fn number(self, n: usize) -> Output {
+        let mut digits = [0u8; 20];
+        let length = io::decimal(n as u64, &mut digits);
+        self.text(&digits[..length])
+    }
+
+    // Writes the words, and spaces behind them up to so many columns, at most 16.
+    pub fn padded(self, words: &[u8], columns: usize) -> Output {
+        let used = words.len();
+        if used < columns {
+            let spaces = basics::part(b"                ", 0, columns - used);
+            return self.text(words).text(spaces);
+        }
+        self.text(words)
+    }
+}
