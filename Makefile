@@ -5,33 +5,60 @@ SHELL := /bin/bash
 FILE ?= samples/sample.collection
 RULE ?=
 
-# Proves and builds a program; after the first time only what has changed.
-build = echo 'proving and building $(1): some minutes the first time' >&2; said=$$(rt check $(1) 2>&1) || { printf '%s\n' "$$said" >&2; exit 1; }
+# The programs for users, and the folder under which `make install` puts them, in bin.
+PROGRAMS := listing card ask
+PREFIX ?= /usr/local
+BIN = $(DESTDIR)$(PREFIX)/bin
+
+# Says at once which of these commands are missing; behind each stands the Debian package that has it.
+need = missing=; for pair in $(1); do \
+	tool=$${pair%%:*}; command -v "$$tool" > /dev/null && continue; missing=1; \
+	if [ "$$tool" = rt ]; then echo 'rt is missing: it is the command of the Rattle kit' >&2; \
+	else echo "$$tool is missing: the Debian package $${pair\#\#*:} has it" >&2; fi; done; [ -z "$$missing" ]
+
+# Proves and builds programs; after the first time only what has changed.
+build = for name in $(1); do [ -x "target/bin/$$name" ] || { echo 'proving and building: some minutes the first time' >&2; break; }; done; \
+	said=$$(rt check $(1) 2>&1) || { printf '%s\n' "$$said" >&2; exit 1; }
 
 list:
+	@$(call need,rt:)
 	@$(call build,listing)
 	@target/bin/listing < '$(FILE)'
 
 card:
+	@$(call need,rt:)
 	@$(call build,card)
 	@target/bin/card $(RULE) < '$(FILE)'
 
 # The layout of all files; the gate, from nothing; then the tests on the programs that the gate built. The gate's closing line comes last.
 test:
+	@$(call need,rt: python3:python3 valgrind:valgrind)
 	@rt fmt --check
 	@set -euo pipefail; log=$$(mktemp); trap 'rm -f "$$log"' EXIT; \
 	rt ci 2>&1 | tee "$$log"; \
 	python3 samples/make.py --check; \
-	python3 tests/readme.py; \
+	python3 tests/readme.py "$$(tail -n 1 "$$log")"; \
+	python3 tests/setup.py; \
 	python3 tests/compare.py; \
 	python3 tests/brute.py | diff tests/brute.expected -; cat tests/brute.expected; \
 	python3 -B tests/check_reference.py; \
 	python3 -B tests/hostile.py; \
+	python3 -B tests/failures.py; \
 	python3 -B tests/memory.py; \
 	tail -n 1 "$$log"
 
+install:
+	@$(call need,rt:)
+	@$(call build,$(PROGRAMS))
+	@mkdir -p '$(BIN)'
+	@cp $(PROGRAMS:%=target/bin/%) '$(BIN)'
+
+uninstall:
+	@rm -f $(PROGRAMS:%='$(BIN)/%')
+
 # Not part of the tests: the speed beside two implementations in C.
 bench:
+	@$(call need,rt: python3:python3 valgrind:valgrind gcc:gcc)
 	@bench/run
 
-.PHONY: list card test bench
+.PHONY: list card test install uninstall bench

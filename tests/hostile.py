@@ -25,40 +25,67 @@ def number(word):
     return int((word.lstrip("0") or "0")[:21])
 
 
-def ask_answer(command, numbers, data):
-    """The answer to a question with the right count of numbers, without the line's end."""
+# How many numbers follow the word of a form. A trace has one at least.
+COUNTS = {"judge": 0, "classes": 1, "step": 3, "fault": 3}
+
+
+def are_numbers(words):
+    return all(re.fullmatch("[0-9]+", word) for word in words)
+
+
+def is_form(words):
+    """Whether the words are a question that can be asked of a body."""
+    command, numbers = (words or [""])[0], words[1:]
+    right_count = len(numbers) >= 1 if command == "trace" else COUNTS.get(command) == len(numbers)
+    return right_count and are_numbers(numbers)
+
+
+def form_answer(words, body):
+    """The answer to a question of a body, without the line's end."""
+    command, numbers = words[0], [number(word) for word in words[1:]]
     if command == "judge":
-        reference.judge(data)
+        reference.judge(body)
         return "accepted"
     if command == "classes":
-        answer = reference.classes(data, *numbers)
+        answer = reference.classes(body, *numbers)
         listed = " ".join(map(str, answer.classes))
         return f"monitorability {MONITORABILITY[answer.monitorability]} reached {answer.reached} classes {listed}"
     if command == "step":
-        return "state {} reading {}".format(*reference.step(data, *numbers))
+        return "state {} reading {}".format(*reference.step(body, *numbers))
     if command == "trace":
-        return f"reading {reference.trace(data, numbers[0], numbers[1:])}"
-    if command == "fault":
-        w = reference.fault(data, *numbers)
-        if w is None:
-            return "immune"
-        return (f"vulnerable distance {w.distance} before {w.before} kind {w.kind} replacement {w.replacement} "
-                f"readings {w.sent_reading} {w.received_reading} sent {' '.join(map(str, w.sent))}")
-    return f"accepted {reference.judge_collection(data)}"
+        return f"reading {reference.trace(body, numbers[0], numbers[1:])}"
+    w = reference.fault(body, *numbers)
+    if w is None:
+        return "immune"
+    return (f"vulnerable distance {w.distance} before {w.before} kind {w.kind} replacement {w.replacement} "
+            f"readings {w.sent_reading} {w.received_reading} sent {' '.join(map(str, w.sent))}")
+
+
+def ask_answer(words, data):
+    """The answer of `ask` to a question, without the line's end."""
+    if words == ["collection"]:
+        return f"accepted {reference.judge_collection(data)}"
+    if words[:1] == ["rule"]:
+        body = reference.body_of(data, number(words[1]))
+        return "absent" if body is None else form_answer(words[2:], body)
+    return form_answer(words, data)
+
+
+def is_question(words):
+    if words[:1] == ["rule"]:
+        return are_numbers(words[1:2]) and is_form(words[2:])
+    return words == ["collection"] or is_form(words)
 
 
 def expected(program, words, data):
     """The program's standard output, or None where it must show its usage instead."""
     if program == "listing":
         return reference.listing(data)
-    counts = {"judge": 0, "classes": 1, "step": 3, "fault": 3, "collection": 0}
-    command, numbers = (words or [""])[0], words[1:]
-    right_count = len(numbers) >= 1 if command == "trace" else counts.get(command) == len(numbers)
-    if not right_count or not all(re.fullmatch("[0-9]+", word) for word in numbers):
+    if not is_question(words):
         return None
     try:
         reference.question(len(data) <= INPUT_LIMIT, 26, 0)
-        return ask_answer(command, [number(word) for word in numbers], data) + "\n"
+        return ask_answer(words, data) + "\n"
     except Refused as no:
         return f"refused {no.number} {no.place}\n"
 

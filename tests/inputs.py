@@ -229,9 +229,11 @@ def leading_zeros(rng):
 
 def wrong_arguments(rng):
     """Unknown questions, too few and too many arguments, and words that are no numbers: the usage line."""
-    lines = ["", "3", "judg", "JUDGE", "judge 1", "judge judge", "--help", "listing", "classes", "classes 1 2",
+    lines = ["", "3", "judg", "JUDGE", "judge 1", "judge judge", "help", "listing", "classes", "classes 1 2",
              "step", "step 3", "step 3 0", "step 3 0 0 0", "trace", "fault", "fault 1", "fault 1 3", "fault 1 3 9 9",
-             "collection 0"]
+             "collection 0", "rule", "rule 1", "rule judge", "rule 1 1", "rule x judge", "rule -1 judge", "rule 1 judge 0",
+             "rule 1 collection", "rule 1 rule 1 judge", "rule 1 why 1", "rule 1 --help", "rule 1 classes", "rule 1 step 3 0",
+             "rule 1 trace", "rule 1 fault 1 3", "rule 1 trace 3 x", "why", "why x", "why 1 2"]
     calls = [line.split() for line in lines]
     # The last two: a digit of another script, and a byte that is no text.
     for bad in ("", " ", "-1", "+1", "1 ", " 1", "0x10", "1e3", "1.0", "1,000", "a", "3a", "9" * 30 + "x", "/", ":",
@@ -333,6 +335,38 @@ def random_collections(rng):
         yield from both(rng.choice([data, data, data[:rng.randint(0, len(data))], data + bytes(rng.randint(1, 3))]))
 
 
+def forms_for(rng, body):
+    """Every form, with numbers that fit the body where it has any, and now and then one that does not."""
+    n, k = (body + b"\1\1")[:2]
+    state, message = rng.randrange(max(1, n) + 1), rng.randrange(max(1, k) + 1)
+    yield ["judge"]
+    yield ["classes", rng.choice([0, n, 64])]
+    yield ["step", rng.choice([3, 6, 5]), state, message]
+    yield ["trace", rng.choice([3, 6]), *[rng.randrange(max(1, k)) for _ in range(rng.randint(0, 9))], message]
+    yield ["fault", rng.choice([1, 2, 4, 8, 15, 16]), rng.choice([3, 6]), rng.choice([0, 2, ROOM])]
+
+
+def rules_of_collections(rng):
+    """Every form asked of a rule: of one that is there, of one that is not, and in collections that are refused."""
+    for _ in range(120):
+        bodies = [rng.choice([rng.choice(NAMED), random_table(rng, rng.randint(1, 9), rng.randint(1, 4)), b"", b"\2\2",
+                              NAMED[0][:-1]]) for _ in range(rng.randint(0, 8))]
+        rules = sorted(rng.sample(range(300), len(bodies)))
+        data = collection(list(zip(rules, bodies)))
+        for rule, body in zip(rules, bodies):
+            yield from (ask(data, "rule", rule, *form) for form in forms_for(rng, body))
+        beside = [rule + by for rule in rules for by in (-1, 1, 256, 65536, 2**64)]
+        for rule in {abs(rule) for rule in beside} | {0, 65535, rng.choice(WIDE)}:
+            yield ask(data, "rule", rule, *rng.choice(list(forms_for(rng, A))))
+        for damaged_file in (data[:-1], data + b"\0", data[:rng.randrange(len(data))], bytes([1]) + data[1:]):
+            rule = rng.choice(rules + [7])
+            yield ask(damaged_file, "rule", rule, *rng.choice(list(forms_for(rng, A))))
+    for words in (["judge"], ["fault", 15, 3, ROOM]):
+        most = collection([(2 * i, NAMED[i % len(NAMED)]) for i in range(512)])
+        yield from (ask(most, "rule", rule, *words) for rule in (0, 1, 2, 510, 511, 1021, 1022, 1023, 65535))
+        yield ask(bytes(65537), "rule", 0, *words)
+
+
 def input_sizes(rng):
     """Inputs around 65,536 bytes; accepted collections of exactly that size."""
     wide = [table(*late_repeat(64, 16))] + [random_table(rng, 64, 16, [0] * 62 + [1, 2]) for _ in range(57)]
@@ -355,4 +389,5 @@ def input_sizes(rng):
 GROUPS = [named_tables, small_listings, listings_of_all_sizes, far_listings, witnesses_of_small_tables,
           witnesses_of_all_sizes, areas_for_witnesses, classes_of_tables, steps_and_traces, damaged_in_listings,
           damaged_in_calls, lengths_and_counts, random_bytes, numbers_around_limits, leading_zeros, wrong_arguments,
-          cut_collections, altered_collections, counts_and_numbers, gaps_and_overlaps, random_collections, input_sizes]
+          cut_collections, altered_collections, counts_and_numbers, gaps_and_overlaps, random_collections,
+          rules_of_collections, input_sizes]

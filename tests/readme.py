@@ -1,16 +1,52 @@
 #!/usr/bin/env python3
-"""Compares what the README shows with what the programs print: the listing of the sample collection, and a card of it."""
+"""Runs every command that README.md, docs/FORMAT.md and tests/programs.txt show, and compares what it prints.
+
+    python3 tests/readme.py [CLOSING LINE OF THE GATE]
+
+A command is an indented line that begins with `$ `. What it prints, standard error included, is shown in the indented
+lines behind it. Commands run in the repository's root. `make test`, which runs this script, is not run again: of what
+it prints the last line is shown, and that is compared with the closing line that is given.
+"""
 import pathlib
 import subprocess
 import sys
 
 ROOT = pathlib.Path(__file__).resolve().parent.parent
-SHOWN = (["listing"], ["card", "20"])
+FILES = ["README.md", "docs/FORMAT.md", "tests/programs.txt"]
+INDENT = "    "
 
-readme = (ROOT / "README.md").read_text()
-sample = (ROOT / "samples/sample.collection").read_bytes()
-for program, *words in SHOWN:
-    printed = subprocess.run([ROOT / "target/bin" / program, *words], input=sample, stdout=subprocess.PIPE, check=True).stdout.decode()
-    if "".join(f"    {line}\n" for line in printed.splitlines()) not in readme:
-        sys.exit(f"the README does not show what {program} prints:\n{printed}")
-print(f"readme: {len(SHOWN)} outputs shown as printed")
+
+def shown(text):
+    """The commands of a text, each with the lines shown behind it."""
+    commands = []
+    for line in text.splitlines():
+        if line.startswith(INDENT + "$ "):
+            commands.append((line[len(INDENT) + 2:], []))
+            inside = True
+        elif line and not line.startswith(INDENT):
+            inside = False
+        elif commands and inside:
+            commands[-1][1].append(line[len(INDENT):])
+    return [(command, "\n".join(lines).rstrip("\n")) for command, lines in commands]
+
+
+def printed(command):
+    done = subprocess.run(["bash", "-c", command], cwd=ROOT, stdin=subprocess.DEVNULL, stdout=subprocess.PIPE, stderr=subprocess.STDOUT)
+    return done.stdout.decode("utf-8", "replace").rstrip("\n")
+
+
+def main():
+    closing = sys.argv[1] if len(sys.argv) > 1 else None
+    for name in FILES:
+        commands = shown((ROOT / name).read_text())
+        if not commands:
+            sys.exit(f"readme: {name} shows no command")
+        for command, lines in commands:
+            came = (closing or lines) if command == "make test" else printed(command)
+            if came != lines:
+                sys.exit(f"readme: {name} shows of {command}\n{lines}\nand it prints\n{came}")
+        print(f"readme: {len(commands)} commands of {name} print what is shown")
+
+
+if __name__ == "__main__":
+    main()

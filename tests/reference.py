@@ -228,6 +228,11 @@ def judge_collection(data):
     return len(read_collection(data))
 
 
+def body_of(data, rule):
+    """The body of a rule, None where the collection does not have it."""
+    return dict(read_collection(data)).get(rule)
+
+
 def listing_line(rule, body):
     try:
         monitorability = MONITORABILITY[classes(body, 64).monitorability]

@@ -2,9 +2,6 @@
 // and with none all are shown.
 mod chosen;
 mod page;
-mod runs;
-mod states;
-mod traces;
 mod words;
 
 use basics::Refusal;
@@ -30,7 +27,7 @@ fn fault(out: Output, body: &[u8], kind: Kind, domain: usize) -> Output {
     let Finding::Vulnerable(witness) = finding else {
         return words::no_witness(named, finding);
     };
-    traces::draw(
+    drawing::traces::draw(
         named,
         basics::part(&area, 0, witness.distance),
         witness,
@@ -80,7 +77,7 @@ fn card(out: Output, rule: usize, body: &[u8]) -> Output {
             let judged = words::monitorability(headed, monitorability).text(b"\n");
             let sized = sizes(judged, body, reached);
             let classes = basics::part(&area, 0, basics::byte_at(body, 0));
-            let classed = states::class_lines(sized, classes);
+            let classed = drawing::states::class_lines(sized, classes);
             let marked = faults_by(classed.text(b"by marks\n"), body, 3);
             faults_by(marked.text(b"by classes\n"), body, 6)
         }

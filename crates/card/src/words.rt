@@ -1,4 +1,4 @@
-// The words of a card: refusals, monitorability, faults and readings; and what the program says of itself.
+// The words of a card: refusals, monitorability and faults; and what the program says of itself.
 use basics::Refusal;
 use faults::Kind;
 use immunity::Finding;
@@ -65,18 +65,6 @@ pub fn monitorability(out: Output, m: usize) -> Output {
     }
 }
 
-// A number, and spaces up to three columns.
-pub fn three_columns(out: Output, n: usize) -> Output {
-    let written = out.number(n);
-    if n < 10 {
-        return written.text(b"  ");
-    }
-    if n < 100 {
-        return written.text(b" ");
-    }
-    written
-}
-
 // The name of a fault, up to the column where its finding begins.
 pub fn fault_name(out: Output, kind: Kind) -> Output {
     match kind {
@@ -93,18 +81,6 @@ pub fn no_witness(out: Output, finding: Finding) -> Output {
         return out.text(b"immune\n");
     };
     body_refusal(out, r)
-}
-
-// A reading by its name: a mark in domain 3, a class in domain 6.
-pub fn reading_word(out: Output, domain: usize, reading: usize) -> Output {
-    if domain != 3 {
-        return printing::class_word(out, reading, 0);
-    }
-    match reading {
-        0 => out.text(b"not yet"),
-        1 => out.text(b"true"),
-        _ => out.text(b"false"),
-    }
 }
 
 // A number and what it counts, in the singular or the plural.

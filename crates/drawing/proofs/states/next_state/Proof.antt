@@ -2,8 +2,8 @@
 use Prim.Native.Nat.{_-_}
 use lib.ListN.{length}
 use borrow.Author.Needs.{needs}
-use Rattle.card.proofs.states.next_state.Statement.{statement}
-use Rattle.card.proofs.states.next_state.Tie as tie
+use Rattle.drawing.proofs.states.next_state.Statement.{statement}
+use Rattle.drawing.proofs.states.next_state.Tie as tie
 
 abbrev Inv-loop : tie.InvT-loop
 Inv-loop classes class from q₀ q = Unit

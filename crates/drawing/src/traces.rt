@@ -1,7 +1,6 @@
 // A witness drawn as two traces, the sent one above the received one, message under message. What the fault strikes
 // stands in brackets. Six or more equal messages in a row, apart from the fault, are written once with their number.
 use crate::runs;
-use crate::words;
 use faults::Fault;
 use faults::Kind;
 use faults::Symbols;
@@ -177,6 +176,30 @@ fn items(
     after
 }
 
+// A number, and spaces up to three columns.
+fn three_columns(out: Output, n: usize) -> Output {
+    let written = out.number(n);
+    if n < 10 {
+        return written.text(b"  ");
+    }
+    if n < 100 {
+        return written.text(b" ");
+    }
+    written
+}
+
+// A reading by its name: a mark in domain 3, a class in domain 6.
+fn reading_word(out: Output, domain: usize, reading: usize) -> Output {
+    if domain != 3 {
+        return printing::class_word(out, reading, 0);
+    }
+    match reading {
+        0 => out.text(b"not yet"),
+        1 => out.text(b"true"),
+        _ => out.text(b"false"),
+    }
+}
+
 // The left margin of a sent trace. In the first line the fault's name stands there already.
 fn sent_margin(out: Output, from: usize) -> Output {
     if from > 0 {
@@ -190,13 +213,13 @@ fn received_margin(out: Output, w: Witness, from: usize) -> Output {
     if from > 0 {
         return out.text(b"                  received ");
     }
-    words::three_columns(out.text(b"    distance "), w.distance).text(b"  received ")
+    three_columns(out.text(b"    distance "), w.distance).text(b"  received ")
 }
 
 // The end of a line: the reading, or a sign that the trace goes on.
 fn line_close(out: Output, last: bool, domain: usize, reading: usize) -> Output {
     if last {
-        return words::reading_word(out.text(b"  "), domain, reading).text(b"\n");
+        return reading_word(out.text(b"  "), domain, reading).text(b"\n");
     }
     out.text(b" ..\n")
 }

@@ -1,8 +1,8 @@
 -- `lines` ends.
 use Prim.Native.Nat.{_-_}
 use borrow.Author.Needs.{needs}
-use Rattle.card.proofs.traces.lines.Statement.{statement}
-use Rattle.card.proofs.traces.lines.Tie as tie
+use Rattle.drawing.proofs.traces.lines.Statement.{statement}
+use Rattle.drawing.proofs.traces.lines.Tie as tie
 
 abbrev Inv-loop : tie.InvT-loop
 Inv-loop head rest fault w end domain after₀ from₀ after from = Unit {0}

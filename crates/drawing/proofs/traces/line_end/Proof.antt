@@ -1,8 +1,8 @@
 -- `line_end` ends, behind an item at least.
 use Prim.Native.Nat.{_*_, _≤_, _-_}
 use borrow.Author.Needs.{needs}
-use Rattle.card.proofs.traces.line_end.Statement.{statement}
-use Rattle.card.proofs.traces.line_end.Tie as tie
+use Rattle.drawing.proofs.traces.line_end.Statement.{statement}
+use Rattle.drawing.proofs.traces.line_end.Tie as tie
 
 abbrev Inv-loop : tie.InvT-loop
 Inv-loop head rest from end used₀ i₀ used i = (from ≤ i) × (i ≤ end) × (used ≤ 63) × (used ≤ 63 * (i - from))

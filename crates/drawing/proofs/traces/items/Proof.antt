@@ -1,8 +1,8 @@
 -- `items` ends.
 use Prim.Native.Nat.{_-_}
 use borrow.Author.Needs.{needs}
-use Rattle.card.proofs.traces.items.Statement.{statement}
-use Rattle.card.proofs.traces.items.Tie as tie
+use Rattle.drawing.proofs.traces.items.Statement.{statement}
+use Rattle.drawing.proofs.traces.items.Tie as tie
 
 abbrev Inv-loop : tie.InvT-loop
 Inv-loop head rest here other from end after₀ i₀ after i = Unit {0}

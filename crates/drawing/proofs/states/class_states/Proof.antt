@@ -2,8 +2,8 @@
 use Prim.Native.Nat.{_<_, _-_}
 use lib.ListN.{length}
 use borrow.Author.Needs.{needs}
-use Rattle.card.proofs.states.class_states.Statement.{statement}
-use Rattle.card.proofs.states.class_states.Tie as tie
+use Rattle.drawing.proofs.states.class_states.Statement.{statement}
+use Rattle.drawing.proofs.states.class_states.Tie as tie
 
 abbrev Inv-loop : tie.InvT-loop
 Inv-loop classes class row₀ q₀ row q = row .used < 100

@@ -2,8 +2,8 @@
 use Prim.Native.Nat.{_≤_, _<_, _-_}
 use lib.ListN.{length}
 use borrow.Author.Needs.{needs}
-use Rattle.card.proofs.runs.last_alike.Statement.{statement}
-use Rattle.card.proofs.runs.last_alike.Tie as tie
+use Rattle.drawing.proofs.runs.last_alike.Statement.{statement}
+use Rattle.drawing.proofs.runs.last_alike.Tie as tie
 
 abbrev Inv-loop : tie.InvT-loop
 Inv-loop bytes at byte last₀ last = (at ≤ last) × (last < length bytes)

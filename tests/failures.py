@@ -1,0 +1,124 @@
+"""What the programs do where the machine fails them: no room for output, nobody who reads it, input that cannot be
+read, and a small stack.
+
+Run from the repository's root: python3 tests/failures.py [FOLDER OF THE PROGRAMS].
+"""
+
+import os
+import resource
+import signal
+import subprocess
+import sys
+import tempfile
+
+from inputs import ROOM
+from tables import E, collection, in_a_row, late_repeat, table
+
+PROGRAMS = sys.argv[1] if len(sys.argv) > 1 else os.path.join("target", "bin")
+with open(os.path.join("samples", "sample.collection"), "rb") as sample:
+    SAMPLE = sample.read()
+LARGE = collection([(1, table(*late_repeat(64, 16))), (2, table(*in_a_row(64, 16)))] + [(i, E) for i in range(3, 513)])
+
+# A call of each program, and of `ask` one that reads no input and one that reads a trace.
+CALLS = [(["listing"], SAMPLE), (["card"], SAMPLE), (["card", "20", "21"], SAMPLE), (["ask", "judge"], E),
+         (["ask", "rule", "20", "fault", "8", "3", "3"], SAMPLE), (["ask", "trace", "3", "1", "1"], E),
+         (["ask", "why", "8"], b""), (["listing", "--help"], b""), (["card", "--help"], b""), (["ask", "--help"], b"")]
+
+# The greatest stack, in KiB, that a call may need: for `ask trace` the room for 262,144 messages comes on top.
+STACK, TRACE_STACK = 256, 512
+
+
+def run(words, data, limits=None, **streams):
+    """A call's exit status (below 0: the signal that ended it), standard output where it is a pipe, and standard error."""
+    command = [os.path.join(PROGRAMS, words[0]), *words[1:]]
+    streams = {"stdout": subprocess.PIPE, **streams}
+    if "stdin" not in streams:
+        streams["input"] = data
+    done = subprocess.run(command, stderr=subprocess.PIPE, preexec_fn=limits, timeout=60, **streams)
+    return done.returncode, done.stdout, done.stderr.decode()
+
+
+def check(what, words, came, wanted):
+    if came != wanted:
+        sys.exit(f"failures: {' '.join(words)[:200]}, {what}: wanted {str(wanted)[:2000]}, came {str(came)[:2000]}")
+
+
+def told(words, stream, reason):
+    return f"{words[0]}: standard {stream}: {reason}\n"
+
+
+def full_device():
+    for words, data in CALLS:
+        with open("/dev/full", "wb") as full:
+            _, _, err = run(words, data, stdout=full)
+        check("a full device", words, err, told(words, "output", "No space left on device"))
+
+
+def full_after(size):
+    """What was written before the room ended stands there, nothing comes behind it, and one line tells it."""
+    def limits():
+        signal.signal(signal.SIGXFSZ, signal.SIG_IGN)
+        resource.setrlimit(resource.RLIMIT_FSIZE, (size, size))
+    for words, data in CALLS:
+        _, whole, _ = run(words, data)
+        with tempfile.TemporaryFile() as file:
+            _, _, err = run(words, data, limits, stdout=file)
+            file.seek(0)
+            check(f"room for {size} bytes", words, file.read(), whole[:size])
+        failed = size < len(whole)
+        check(f"room for {size} bytes", words, err, told(words, "output", "File too large") if failed else "")
+
+
+def closed_pipe(ignored):
+    """A reader that has gone. By default the system ends the program, as any other, before it can tell."""
+    for words, data in CALLS:
+        reader, writer = os.pipe()
+        os.close(reader)
+        limits = (lambda: signal.signal(signal.SIGPIPE, signal.SIG_IGN)) if ignored else None
+        status, _, err = run(words, data, limits, stdout=writer)
+        os.close(writer)
+        if ignored:
+            check("a closed pipe", words, err, told(words, "output", "Broken pipe"))
+        else:
+            check("a closed pipe", words, (status, err), (-signal.SIGPIPE, ""))
+
+
+def closed_output():
+    for words, data in CALLS:
+        _, _, err = run(words, data, lambda: os.close(1))
+        check("no standard output", words, err, told(words, "output", "Bad file descriptor"))
+
+
+def unreadable_input():
+    """A folder as input, and no input at all. Nothing is answered."""
+    for words, data in CALLS:
+        if data:
+            folder = os.open("tests", os.O_RDONLY)
+            _, out, err = run(words, data, stdin=folder)
+            os.close(folder)
+            check("a folder as input", words, (out, err), (b"", told(words, "input", "Is a directory")))
+            _, out, err = run(words, data, lambda: os.close(0), stdin=subprocess.DEVNULL)
+            check("no standard input", words, (out, err), (b"", told(words, "input", "Bad file descriptor")))
+
+
+def small_stack():
+    """The same answers with a small stack as with any. It holds the arguments and the environment too, so there is none."""
+    calls = CALLS + [(["listing"], LARGE), (["card"], LARGE), (["ask", "rule", "1", "fault", "4", "6", str(ROOM)], LARGE),
+                     (["ask", "classes", "9" * 9999], E), (["ask"], E), (["card", "x"], SAMPLE), (["ask", "collection"], LARGE),
+                     (["ask", "rule", "512", "trace", "3"] + ["1"] * 999, LARGE)]
+    for words, data in calls:
+        for kib in {TRACE_STACK, TRACE_STACK if "trace" in words else STACK}:
+            def limits():
+                resource.setrlimit(resource.RLIMIT_STACK, (kib * 1024, kib * 1024))
+            check(f"a stack of {kib} KiB", words, run(words, data, limits, env={}), run(words, data))
+
+
+full_device()
+for room in (0, 1, 20, 300, 100000):
+    full_after(room)
+closed_pipe(True)
+closed_pipe(False)
+closed_output()
+unreadable_input()
+small_stack()
+print(f"failures: a full device, a closed pipe, unreadable input and a stack of {STACK} KiB are as said")
