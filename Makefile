@@ -16,18 +16,19 @@ need = missing=; for pair in $(1); do \
 	if [ "$$tool" = rt ]; then echo 'rt is missing: it is the command of the Rattle kit' >&2; \
 	else echo "$$tool is missing: the Debian package $${pair\#\#*:} has it" >&2; fi; done; [ -z "$$missing" ]
 
-# Proves and builds programs; after the first time only what has changed.
-build = for name in $(1); do [ -x "target/bin/$$name" ] || { echo 'proving and building: some minutes the first time' >&2; break; }; done; \
-	said=$$(rt check $(1) 2>&1) || { printf '%s\n' "$$said" >&2; exit 1; }
+# Proves and builds the programs; after the first time only what has changed.
+build = for name in $(PROGRAMS); do [ -x "target/bin/$$name" ] && continue; \
+	echo 'proving and building the programs: some minutes the first time' >&2; break; done; \
+	said=$$(rt check $(PROGRAMS) 2>&1) || { printf '%s\n' "$$said" >&2; exit 1; }
 
 list:
 	@$(call need,rt:)
-	@$(call build,listing)
+	@$(build)
 	@target/bin/listing < '$(FILE)'
 
 card:
 	@$(call need,rt:)
-	@$(call build,card)
+	@$(build)
 	@target/bin/card $(RULE) < '$(FILE)'
 
 # The layout of all files; the gate, from nothing; then the tests on the programs that the gate built. The gate's closing line comes last.
@@ -49,7 +50,7 @@ test:
 
 install:
 	@$(call need,rt:)
-	@$(call build,$(PROGRAMS))
+	@$(build)
 	@mkdir -p '$(BIN)'
 	@cp $(PROGRAMS:%=target/bin/%) '$(BIN)'
 

@@ -105,6 +105,9 @@ def collections():
                          ("01000A00000000000000", 1), ("0200 6300000000000500 1200000000000500", (23, 1)),
                          ("0200 1200000000000500 6300000000000600", (24, 1))):
         check(answer(reference.judge_collection, bytes.fromhex(text)), wanted, text)
+    for rule, wanted in ((1, A), (2, E), (4, None), (0, None), (65537, None)):
+        check(reference.body_of(data, rule), wanted, f"the body of rule {rule}")
+    check(answer(reference.body_of, data[:-1], 1), (25, 0), "a rule of a refused collection")
     check(listing(b""), "collection refused 20\n", "empty input")
     check(listing(b"\0\0"), reference.HEADER, "0 0")
     check(listing(b"\0\0" + bytes(65534)), "collection refused 25\n", "65,536 bytes")

@@ -54,6 +54,11 @@ def collections():
         yield ask(data, "collection")
         yield listing(data)
         yield card(data)
+    for words in (["judge"], ["classes", 64], ["step", 6, 0, 1], ["trace", 3, 0, 1], ["fault", 15, 6, ROOM]):
+        for rule in (0, 510, 511, 65535, 65536):
+            yield ask(most, "rule", rule, *words)
+    for data in (b"", b"\0\0", most + b"\0", most[:-1], most[:4000], single, b"\xff" * 65536):
+        yield ask(data, "rule", 9, "fault", 15, 6, ROOM)
     yield card(most, 65535, 0, 510, 511)
     yield card(most, *range(10000))
 
@@ -79,9 +84,12 @@ def arguments():
     """No arguments, wrong ones, and very long ones."""
     for words in ([], ["x"], [""], [LONG], ["classes"], ["classes", "-1"], ["classes", LONG], ["classes", LONG + "x"],
                   ["fault", LONG, LONG, LONG], ["fault", 8, 3, "0" * 100000], ["step", 3, LONG, LONG],
-                  ["trace", 3, 0, LONG]):
+                  ["trace", 3, 0, LONG], ["--help"], ["why", 8], ["why", LONG], ["why"], ["rule"], ["rule", LONG],
+                  ["rule", LONG, "judge"], ["rule", 1, LONG], ["rule", 1, "trace", 3, LONG]):
         yield ask(A, *words)
-    for words in ([LONG], ["0" * 100000 + "1"], ["x"], [""], ["-1"], [65536], [2**64 + 1]):
+    yield "listing", ["--help"], A
+    yield "listing", [LONG], A
+    for words in ([LONG], ["0" * 100000 + "1"], ["x"], [""], ["-1"], [65536], [2**64 + 1], ["--help"]):
         yield card(collection([(1, A)]), *words)
 
 

@@ -8,6 +8,7 @@ lines behind it. Commands run in the repository's root. `make test`, which runs 
 it prints the last line is shown, and that is compared with the closing line that is given.
 """
 import pathlib
+import re
 import subprocess
 import sys
 
@@ -35,6 +36,18 @@ def printed(command):
     return done.stdout.decode("utf-8", "replace").rstrip("\n")
 
 
+def refusals():
+    """Each row of FORMAT's table of refusals has the words of `ask why`, and no number is left out."""
+    rows = re.findall(r"^\| (\d+) \| ([^|]+) \| [^|]+ \|$", (ROOT / "docs/FORMAT.md").read_text().partition("## Refusals")[2].partition("## ")[0], re.M)
+    for number, words in rows:
+        if (came := printed(f"target/bin/ask why {number}")) != f"{number}: {words}":
+            sys.exit(f"readme: docs/FORMAT.md has {number}: {words}, and ask why prints {came}")
+    known = [number for number in range(40) if not printed(f"target/bin/ask why {number}").endswith("no refusal has this number")]
+    if known != [int(number) for number, _ in rows]:
+        sys.exit(f"readme: docs/FORMAT.md does not have the refusals {known}")
+    print(f"readme: the {len(rows)} refusals of docs/FORMAT.md are those of ask why")
+
+
 def main():
     closing = sys.argv[1] if len(sys.argv) > 1 else None
     for name in FILES:
@@ -46,6 +59,7 @@ def main():
             if came != lines:
                 sys.exit(f"readme: {name} shows of {command}\n{lines}\nand it prints\n{came}")
         print(f"readme: {len(commands)} commands of {name} print what is shown")
+    refusals()
 
 
 if __name__ == "__main__":

@@ -1,6 +1,5 @@
 // A program's arguments: decimal numbers of any length, and words.
 ghost use mathlib.Core.Path.{_≡_};
-ghost use Rattle.io.specs.Counts.{Counts};
 ghost use Rattle.arguments.specs.Numbers.{isDigit, decimalOf};
 
 // A greater number is answered as this one. No question accepts a number near it, and ten times it and a digit more fit
@@ -44,21 +43,14 @@ pub fn read_decimal(text: &[u8]) -> Decimal
     Decimal::Number(number)
 }
 
-// Puts the program's argument i at the start of a space that is lent, and answers its length: 0 where it is missing or
-// longer than the space.
-pub fn fetch(i: usize, space: &mut [u8]) -> usize
-    ensures { λ r. ⌜ Counts r (now (space .exit)) ⌝ }
-{
-    os::arg(i, space)
-}
-
-// The program's argument i as a number. One that is missing or longer than the space is none.
+// The program's argument i, read into a space that is lent, as a number. One that is missing or longer than the space is
+// none.
 pub fn number_at(i: usize, space: &mut [u8]) -> Decimal {
     let length = os::arg(i, space);
     read_decimal(&space[..length])
 }
 
-// Whether the program's argument i is this word. One that is missing or longer than the space is no word.
+// Whether the program's argument i, read likewise, is this word.
 pub fn is_word(i: usize, word: &[u8], space: &mut [u8]) -> bool {
     let length = os::arg(i, space);
     check::same(&space[..length], word)

@@ -94,7 +94,7 @@ fn word_of(text: &[u8]) -> Word {
 }
 
 fn word_at(i: usize, space: &mut [u8]) -> Word {
-    let length = arguments::fetch(i, space);
+    let length = os::arg(i, space);
     word_of(&space[..length])
 }
 

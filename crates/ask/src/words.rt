@@ -4,11 +4,11 @@ use output::Program;
 
 // A wrong form: one line on standard error.
 pub fn usage() {
-    output::error_text(b"usage: ask [rule RULE] judge | classes AREA | step READING STATE MESSAGE");
-    output::error_text(b" | trace READING MESSAGE.. | fault SET READING AREA, or ask collection,");
     output::error_text(
-        b" ask why NUMBER; the body or collection on standard input; ask --help says more\n",
+        b"usage: ask judge | classes AREA | step READING STATE MESSAGE | trace READING MESSAGE..",
     );
+    output::error_text(b" | fault SET READING AREA | rule RULE FORM.. | collection | why NUMBER");
+    output::error_text(b"; ask --help says more\n");
 }
 
 fn forms(out: Output) -> Output {
