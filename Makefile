@@ -31,7 +31,8 @@ card:
 	@$(build)
 	@target/bin/card $(RULE) < '$(FILE)'
 
-# The layout of all files; the gate, from nothing; then the tests on the programs that the gate built. The gate's closing line comes last.
+# The layout of all files; the gate, from nothing; then the tests on the programs that the gate built. The gate's
+# closing line comes last.
 test:
 	@$(call need,rt: python3:python3 valgrind:valgrind)
 	@rt fmt --check
@@ -48,9 +49,10 @@ test:
 	python3 -B tests/memory.py; \
 	tail -n 1 "$$log"
 
+# Without `rt`, as it may be for root, the programs that are built are copied as they are.
 install:
-	@$(call need,rt:)
-	@$(build)
+	@for name in $(PROGRAMS); do [ -x "target/bin/$$name" ] || { $(call need,rt:) || exit 1; }; done; \
+	! command -v rt > /dev/null || { $(build); }
 	@mkdir -p '$(BIN)'
 	@cp $(PROGRAMS:%=target/bin/%) '$(BIN)'
 

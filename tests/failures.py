@@ -5,11 +5,14 @@ Run from the repository's root: python3 tests/failures.py [FOLDER OF THE PROGRAM
 """
 
 import os
+import pty
 import resource
 import signal
 import subprocess
 import sys
 import tempfile
+import termios
+import tty
 
 from inputs import ROOM
 from tables import E, collection, in_a_row, late_repeat, table
@@ -102,15 +105,38 @@ def unreadable_input():
 
 
 def small_stack():
-    """The same answers with a small stack as with any. It holds the arguments and the environment too, so there is none."""
-    calls = CALLS + [(["listing"], LARGE), (["card"], LARGE), (["ask", "rule", "1", "fault", "4", "6", str(ROOM)], LARGE),
-                     (["ask", "classes", "9" * 9999], E), (["ask"], E), (["card", "x"], SAMPLE), (["ask", "collection"], LARGE),
-                     (["ask", "rule", "512", "trace", "3"] + ["1"] * 999, LARGE)]
+    """The same answers with a small stack as with any. The environment, which it holds too, is empty."""
+    calls = CALLS + [(["listing"], LARGE), (["card"], LARGE), (["card", "x"], SAMPLE), (["ask"], E),
+                     (["ask", "rule", "1", "fault", "4", "6", str(ROOM)], LARGE), (["ask", "collection"], LARGE),
+                     (["ask", "classes", "9" * 9999], E), (["ask", "rule", "512", "trace", "3"] + ["1"] * 999, LARGE)]
     for words, data in calls:
-        for kib in {TRACE_STACK, TRACE_STACK if "trace" in words else STACK}:
-            def limits():
-                resource.setrlimit(resource.RLIMIT_STACK, (kib * 1024, kib * 1024))
-            check(f"a stack of {kib} KiB", words, run(words, data, limits, env={}), run(words, data))
+        kib = TRACE_STACK if "trace" in words else STACK
+
+        def limits():
+            resource.setrlimit(resource.RLIMIT_STACK, (kib * 1024, kib * 1024))
+        check(f"a stack of {kib} KiB", words, run(words, data, limits, env={}), run(words, data))
+
+
+def terminal():
+    """An input typed at a terminal ends with one end-of-file key."""
+    for words, typed in ((["ask", "collection"], "@@"), (["listing"], "@@"), (["card"], "@@")):
+        manager, line = pty.openpty()
+        tty.setraw(line)
+        settings = termios.tcgetattr(line)
+        settings[3] |= termios.ICANON
+        termios.tcsetattr(line, termios.TCSANOW, settings)
+        command = [os.path.join(PROGRAMS, words[0]), *words[1:]]
+        with subprocess.Popen(command, stdin=line, stdout=subprocess.PIPE, stderr=subprocess.STDOUT) as program:
+            os.write(manager, typed.encode() + b"\n" + bytes([termios.tcgetattr(line)[6][termios.VEOF][0]]))
+            try:
+                out = program.communicate(timeout=10)[0]
+            except subprocess.TimeoutExpired:
+                program.kill()
+                sys.exit(f"failures: {' '.join(words)} does not end with its input at a terminal")
+        os.close(manager)
+        os.close(line)
+        _, wanted, _ = run(words, typed.encode() + b"\n")
+        check("a terminal", words, out, wanted)
 
 
 full_device()
@@ -120,5 +146,6 @@ closed_pipe(True)
 closed_pipe(False)
 closed_output()
 unreadable_input()
+terminal()
 small_stack()
-print(f"failures: a full device, a closed pipe, unreadable input and a stack of {STACK} KiB are as said")
+print(f"failures: no room, closed pipes, unreadable input, a terminal, and stacks of {STACK} and {TRACE_STACK} KiB are as said")

@@ -98,7 +98,7 @@ def run(program, words, data):
         done = subprocess.run([os.path.join(PROGRAMS, program), *words], input=data, capture_output=True, timeout=60)
     except subprocess.TimeoutExpired:
         return "(no end within 60 seconds)", ""
-    died = f"(killed by signal {-done.returncode})" if done.returncode < 0 else ""
+    died = f"(exit status {done.returncode})" if done.returncode != 0 else ""
     return done.stdout.decode("latin-1") + died, done.stderr.decode("latin-1")
 
 

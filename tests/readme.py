@@ -32,17 +32,22 @@ def shown(text):
 
 
 def printed(command):
-    done = subprocess.run(["bash", "-c", command], cwd=ROOT, stdin=subprocess.DEVNULL, stdout=subprocess.PIPE, stderr=subprocess.STDOUT)
+    """What a command prints. One that fails is told, whatever it printed: no program here has an exit status but 0."""
+    done = subprocess.run(["bash", "-c", command], cwd=ROOT, stdin=subprocess.DEVNULL,
+                          stdout=subprocess.PIPE, stderr=subprocess.STDOUT)
+    if done.returncode != 0:
+        sys.exit(f"readme: {command} ends with status {done.returncode}")
     return done.stdout.decode("utf-8", "replace").rstrip("\n")
 
 
 def refusals():
     """Each row of FORMAT's table of refusals has the words of `ask why`, and no number is left out."""
-    rows = re.findall(r"^\| (\d+) \| ([^|]+) \| [^|]+ \|$", (ROOT / "docs/FORMAT.md").read_text().partition("## Refusals")[2].partition("## ")[0], re.M)
+    section = (ROOT / "docs/FORMAT.md").read_text().partition("## Refusals")[2].partition("## ")[0]
+    rows = re.findall(r"^\| (\d+) \| ([^|]+) \| [^|]+ \|$", section, re.M)
     for number, words in rows:
         if (came := printed(f"target/bin/ask why {number}")) != f"{number}: {words}":
             sys.exit(f"readme: docs/FORMAT.md has {number}: {words}, and ask why prints {came}")
-    known = [number for number in range(40) if not printed(f"target/bin/ask why {number}").endswith("no refusal has this number")]
+    known = [number for number in range(40) if printed(f"target/bin/ask why {number}") != "no refusal has this number"]
     if known != [int(number) for number, _ in rows]:
         sys.exit(f"readme: docs/FORMAT.md does not have the refusals {known}")
     print(f"readme: the {len(rows)} refusals of docs/FORMAT.md are those of ask why")
@@ -55,7 +60,10 @@ def main():
         if not commands:
             sys.exit(f"readme: {name} shows no command")
         for command, lines in commands:
-            came = (closing or lines) if command == "make test" else printed(command)
+            if command != "make test":
+                came = printed(command)
+            else:
+                came = lines if closing is None else closing
             if came != lines:
                 sys.exit(f"readme: {name} shows of {command}\n{lines}\nand it prints\n{came}")
         print(f"readme: {len(commands)} commands of {name} print what is shown")

@@ -4,27 +4,57 @@ Makefile on a machine where something that it needs is missing.
 """
 import os
 import pathlib
+import shutil
 import subprocess
 import sys
 import tempfile
 
 ROOT = pathlib.Path(__file__).resolve().parent.parent
 PROGRAMS = ["ask", "card", "listing"]
+SAMPLE = (ROOT / "samples/sample.collection").read_bytes()
+
+# What a call of each program prints first.
+CALLS = {"listing": "rule states class loss corruption repeat swap\n3 2 pos 1 1 - -\n", "card 31": "rule 31: pos (",
+         "ask collection": "accepted 15\n"}
 
 # What each command needs, and where a user gets it.
 KIT = "rt", "it is the command of the Rattle kit"
 PYTHON, VALGRIND, COMPILER = [(name, f"the Debian package {name} has it") for name in ("python3", "valgrind", "gcc")]
-NEEDS = {"list": [KIT], "card": [KIT], "install": [KIT], "test": [KIT, PYTHON, VALGRIND], "bench": [KIT, PYTHON, VALGRIND, COMPILER]}
+NEEDS = {"list": [KIT], "card": [KIT], "test": [KIT, PYTHON, VALGRIND],
+         "bench": [KIT, PYTHON, VALGRIND, COMPILER]}
 
 
 def make(*words, path=None):
     env = dict(os.environ, MAKEFLAGS="", **({"PATH": path} if path else {}))
-    return subprocess.run(["/usr/bin/env", "make", "--no-print-directory", *words], cwd=ROOT, env=env, capture_output=True, text=True)
+    return subprocess.run(["make", "--no-print-directory", *words], cwd=ROOT, env=env, capture_output=True, text=True)
 
 
 def check(what, came, wanted):
     if came != wanted:
         sys.exit(f"setup: {what}: wanted {wanted!r}, came {came!r}")
+
+
+def installed(prefix, *words, path=None):
+    done = make("install", f"PREFIX={prefix}", *words, path=path)
+    check(f"make install {words}", (done.returncode, done.stdout, done.stderr), (0, "", ""))
+
+
+def tools_in(folder, *names):
+    """A folder with these of the machine's commands and no others."""
+    for name in names:
+        (folder / name).symlink_to(shutil.which(name))
+
+
+def installs_elsewhere():
+    """Below DESTDIR; and without `rt`, what is built."""
+    with tempfile.TemporaryDirectory() as folder:
+        root, tools = pathlib.Path(folder) / "root", pathlib.Path(folder) / "tools"
+        installed("/usr", f"DESTDIR={root}")
+        check("what is below DESTDIR", sorted(path.name for path in (root / "usr/bin").iterdir()), PROGRAMS)
+        tools.mkdir()
+        tools_in(tools, "make", "bash", "mkdir", "cp")
+        installed(root / "second", path=str(tools))
+        check("what is installed without rt", sorted(path.name for path in (root / "second/bin").iterdir()), PROGRAMS)
 
 
 def installs():
@@ -33,12 +63,12 @@ def installs():
         prefix = pathlib.Path(folder) / "a folder"
         (prefix / "bin").mkdir(parents=True)
         (prefix / "bin/other").write_text("stays")
-        done = make("install", f"PREFIX={prefix}")
-        check("make install", (done.returncode, done.stdout), (0, ""))
+        installed(prefix)
         check("what is installed", sorted(path.name for path in (prefix / "bin").iterdir()), sorted(PROGRAMS + ["other"]))
-        for name in PROGRAMS:
-            helped = subprocess.run([prefix / "bin" / name, "--help"], capture_output=True, text=True).stdout
-            check(f"{name} --help", helped.startswith(f"{name} "), True)
+        for command, wanted in CALLS.items():
+            name, *words = command.split()
+            done = subprocess.run([prefix / "bin" / name, *words], cwd=folder, input=SAMPLE, capture_output=True)
+            check(f"the installed {name}", done.stdout.decode()[:len(wanted)], wanted)
         check("make uninstall", make("uninstall", f"PREFIX={prefix}").returncode, 0)
         check("what is left", [path.name for path in (prefix / "bin").iterdir()], ["other"])
 
@@ -51,8 +81,7 @@ def without(target, absent):
             if name != absent:
                 (tools / name).write_text(f"#!/bin/sh\necho {name} >> '{ran}'\nexit 1\n")
                 (tools / name).chmod(0o755)
-        for name in ("make", "bash", "sh", "env"):
-            (tools / name).symlink_to(subprocess.run(["which", name], capture_output=True, text=True).stdout.strip())
+        tools_in(tools, "make", "bash", "sh")
         done = make(target, "FILE=/dev/null", path=folder)
         return done.returncode, done.stderr, ran.exists()
 
@@ -62,10 +91,12 @@ def missing_tools():
     for target, needs in NEEDS.items():
         for name, where in needs:
             status, said, ran = without(target, name)
-            check(f"make {target} without {name}", (status != 0, said.splitlines()[:1], ran), (True, [f"{name} is missing: {where}"], False))
+            came = status != 0, said.splitlines()[:1], ran
+            check(f"make {target} without {name}", came, (True, [f"{name} is missing: {where}"], False))
             tried += 1
     return tried
 
 
 installs()
+installs_elsewhere()
 print(f"setup: make install and uninstall do what they say; {missing_tools()} missing tools are told before anything is built")

@@ -2,8 +2,8 @@
 ghost use mathlib.Core.Path.{_≡_};
 ghost use Rattle.arguments.specs.Numbers.{isDigit, decimalOf};
 
-// A greater number is answered as this one. No question accepts a number near it, and ten times it and a digit more fit
-// a usize.
+// A greater number is answered as this one: no answer goes by how far above it a number is. Ten times it and a digit
+// more fit a usize.
 const CAP: usize = 1_000_000_000_000_000_000;
 
 // A space of as many bytes holds every argument that Linux hands over.
@@ -43,8 +43,8 @@ pub fn read_decimal(text: &[u8]) -> Decimal
     Decimal::Number(number)
 }
 
-// The program's argument i, read into a space that is lent, as a number. One that is missing or longer than the space is
-// none.
+// The program's argument i, read into a space that is lent, as a number. One that is missing, or longer than the space,
+// is none.
 pub fn number_at(i: usize, space: &mut [u8]) -> Decimal {
     let length = os::arg(i, space);
     read_decimal(&space[..length])

@@ -106,7 +106,7 @@ fn judge_asked(subject: Subject, behind: usize) -> Asked {
     Asked::Form { subject, form }
 }
 
-// The other forms. Their numbers are the arguments from `at` on; so many stand there.
+// The other forms. Their numbers are the arguments from `at` on, and `behind` is how many arguments stand there.
 fn classes_asked(subject: Subject, at: usize, behind: usize, space: &mut [u8]) -> Asked {
     if behind != 1 {
         return Asked::Unclear;
@@ -115,29 +115,6 @@ fn classes_asked(subject: Subject, at: usize, behind: usize, space: &mut [u8]) -
         return Asked::Unclear;
     };
     let form = Form::Classes { room };
-    Asked::Form { subject, form }
-}
-
-fn step_asked(subject: Subject, at: usize, behind: usize, space: &mut [u8]) -> Asked
-    requires { ⌜ at ≤ 4 ⌝ }
-{
-    if behind != 3 {
-        return Asked::Unclear;
-    }
-    let Decimal::Number(domain) = arguments::number_at(at, space) else {
-        return Asked::Unclear;
-    };
-    let Decimal::Number(state) = arguments::number_at(at + 1, space) else {
-        return Asked::Unclear;
-    };
-    let Decimal::Number(symbol) = arguments::number_at(at + 2, space) else {
-        return Asked::Unclear;
-    };
-    let form = Form::Step {
-        domain,
-        state,
-        symbol,
-    };
     Asked::Form { subject, form }
 }
 
@@ -155,19 +132,62 @@ fn trace_asked(subject: Subject, at: usize, behind: usize, space: &mut [u8]) -> 
     Asked::Form { subject, form }
 }
 
-fn fault_asked(subject: Subject, at: usize, behind: usize, space: &mut [u8]) -> Asked
+// Three numbers and no more, for the forms that have as many.
+enum Numbers {
+    Three {
+        first: usize,
+        second: usize,
+        third: usize,
+    },
+    Unclear,
+}
+
+fn three_numbers(at: usize, behind: usize, space: &mut [u8]) -> Numbers
     requires { ⌜ at ≤ 4 ⌝ }
 {
     if behind != 3 {
-        return Asked::Unclear;
+        return Numbers::Unclear;
     }
-    let Decimal::Number(set) = arguments::number_at(at, space) else {
+    let Decimal::Number(first) = arguments::number_at(at, space) else {
+        return Numbers::Unclear;
+    };
+    let Decimal::Number(second) = arguments::number_at(at + 1, space) else {
+        return Numbers::Unclear;
+    };
+    let Decimal::Number(third) = arguments::number_at(at + 2, space) else {
+        return Numbers::Unclear;
+    };
+    Numbers::Three {
+        first,
+        second,
+        third,
+    }
+}
+
+fn step_asked(subject: Subject, numbers: Numbers) -> Asked {
+    let Numbers::Three {
+        first: domain,
+        second: state,
+        third: symbol,
+    } = numbers
+    else {
         return Asked::Unclear;
     };
-    let Decimal::Number(domain) = arguments::number_at(at + 1, space) else {
-        return Asked::Unclear;
+    let form = Form::Step {
+        domain,
+        state,
+        symbol,
     };
-    let Decimal::Number(room) = arguments::number_at(at + 2, space) else {
+    Asked::Form { subject, form }
+}
+
+fn fault_asked(subject: Subject, numbers: Numbers) -> Asked {
+    let Numbers::Three {
+        first: set,
+        second: domain,
+        third: room,
+    } = numbers
+    else {
         return Asked::Unclear;
     };
     let form = Form::Fault { set, domain, room };
@@ -181,9 +201,9 @@ fn form_asked(word: Word, subject: Subject, at: usize, behind: usize, space: &mu
     match word {
         Word::Judge => judge_asked(subject, behind),
         Word::Classes => classes_asked(subject, at, behind, space),
-        Word::Step => step_asked(subject, at, behind, space),
+        Word::Step => step_asked(subject, three_numbers(at, behind, space)),
         Word::Trace => trace_asked(subject, at, behind, space),
-        Word::Fault => fault_asked(subject, at, behind, space),
+        Word::Fault => fault_asked(subject, three_numbers(at, behind, space)),
         _ => Asked::Unclear,
     }
 }

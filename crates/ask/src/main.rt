@@ -7,7 +7,6 @@ use asked::Asked;
 use asked::Form;
 use asked::MESSAGE_LIMIT;
 use asked::Subject;
-use basics::Refusal;
 use classes::Classification;
 use collection::Collected;
 use collection::Lookup;
@@ -17,7 +16,7 @@ use input::Input;
 use output::Output;
 use output::Program;
 
-// The answer, and the class of each state.
+// The answer, and the class of each state. So many bytes are lent, but no more than the longest answer takes.
 fn classify(out: Output, body: &[u8], room: usize) -> Output {
     let mut area = [0u8; WITNESS_ROOM];
     let end = basics::least_of(room, WITNESS_ROOM);
@@ -31,7 +30,7 @@ fn classify(out: Output, body: &[u8], room: usize) -> Output {
     printing::bytes(answered.text(b" classes"), listed)
 }
 
-// The finding, and the sent trace of a witness.
+// The finding, and the sent trace of a witness. So many bytes are lent, but no more than the longest answer takes.
 fn examine(out: Output, body: &[u8], set: usize, domain: usize, room: usize) -> Output {
     let mut area = [0u8; WITNESS_ROOM];
     let end = basics::least_of(room, WITNESS_ROOM);
@@ -64,8 +63,9 @@ fn of_body(out: Output, form: Form, body: &[u8], messages: &[u8]) -> Output {
 
 // The form asked of the body of a rule, where the collection is accepted and has the rule.
 fn of_rule(out: Output, rule: usize, form: Form, file: &[u8], messages: &[u8]) -> Output {
-    let Collected::Accepted { .. } = collection::judge(file) else {
-        return printing::collected(out, collection::judge(file));
+    let judged = collection::judge(file);
+    let Collected::Accepted { .. } = judged else {
+        return printing::collected(out, judged);
     };
     let Lookup::Entry(i) = collection::find(file, rule) else {
         return out.text(b"absent");
@@ -90,12 +90,8 @@ fn answer(subject: Subject, form: Form, messages: &[u8], space: &mut [u8]) {
             let input = basics::part(space, 0, length);
             of_subject(out, subject, form, input, messages).text(b"\n");
         }
-        Input::TooLong => {
-            let refusal = Refusal {
-                number: 26,
-                place: 0,
-            };
-            printing::refusal(out, refusal).text(b"\n");
+        Input::Refused(r) => {
+            printing::refusal(out, r).text(b"\n");
         }
         Input::Failed => {}
     }
@@ -124,9 +120,18 @@ fn answer_form(subject: Subject, form: Form, space: &mut [u8]) {
         return;
     };
     match subject {
+        Subject::Body => answer_trace(Subject::Body, form, count, space),
         Subject::Rule(rule) => answer_trace(Subject::Rule(rule), form, count, space),
-        _ => answer_trace(Subject::Body, form, count, space),
+        Subject::Collection => words::usage(),
     }
+}
+
+// The number of a refusal, which stands before its reason.
+fn numbered(out: Output, number: usize) -> Output {
+    if printing::has_reason(number) {
+        return out.number(number).text(b": ");
+    }
+    out
 }
 
 fn main() {
@@ -134,7 +139,7 @@ fn main() {
     match asked::read(&mut space) {
         Asked::Help => words::help(),
         Asked::Why { number } => {
-            let out = output::standard(Program::Ask).number(number).text(b": ");
+            let out = numbered(output::standard(Program::Ask), number);
             printing::reason(out, number).text(b"\n");
         }
         Asked::Form { subject, form } => answer_form(subject, form, &mut space),

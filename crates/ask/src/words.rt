@@ -39,5 +39,7 @@ pub fn help() {
         .text(b"AREA is the number of bytes lent for the answer, and 5000 is always enough.\n")
         .text(b"A refusal is the word refused, a number and a place.\n\n")
         .text(b"Example: ask rule 20 fault 8 3 3 < samples/sample.collection\n")
-        .text(b"docs/FORMAT.md explains the bytes, the numbers and the answers.\n");
+        .text(
+            b"docs/FORMAT.md in the repository explains the bytes, the numbers and the answers.\n",
+        );
 }

@@ -10,7 +10,7 @@ const BEYOND: usize = 65536;
 pub const NUMBERS: usize = BEYOND + 1;
 
 // The byte of every number before the arguments are read: with no argument all are wanted.
-pub fn unread() -> u8 {
+pub fn wanted_at_first() -> u8 {
     if os::arg_count() < 2 { 1 } else { 0 }
 }
 
@@ -71,8 +71,8 @@ fn missing_line(page: Page, wanted: &mut [u8], i: usize, space: &mut [u8]) -> Pa
         return page;
     }
     Page {
-        out: missing(page.part(), number),
-        parted: false,
+        out: missing(page.after_gap(), number),
+        gap_due: false,
     }
 }
 

@@ -4,7 +4,6 @@ mod chosen;
 mod page;
 mod words;
 
-use basics::Refusal;
 use classes::Classification;
 use collection::Collected;
 use faults::FaultSet;
@@ -92,8 +91,8 @@ fn cards(page: Page, file: &[u8], count: usize, wanted: &mut [u8]) -> Page {
         let rule = collection::rule_number(file, i);
         if chosen::take(wanted, rule) {
             after = Page {
-                out: card(after.part(), rule, collection::body(file, i)),
-                parted: true,
+                out: card(after.after_gap(), rule, collection::body(file, i)),
+                gap_due: true,
             };
         }
         i += 1;
@@ -116,7 +115,7 @@ fn report(out: Output, length: usize, wanted: &mut [u8], space: &mut [u8]) {
         Collected::Accepted { count } => {
             let page = Page {
                 out: no_rules(out, count),
-                parted: false,
+                gap_due: false,
             };
             let shown = cards(page, basics::part(space, 0, length), count, wanted);
             chosen::missing_lines(shown, wanted, space);
@@ -127,13 +126,7 @@ fn report(out: Output, length: usize, wanted: &mut [u8], space: &mut [u8]) {
 fn answer(out: Output, wanted: &mut [u8], space: &mut [u8]) {
     match input::read(Program::Card, space) {
         Input::Whole { length } => report(out, length, wanted, space),
-        Input::TooLong => {
-            let refusal = Refusal {
-                number: 26,
-                place: 0,
-            };
-            words::collection_refusal(out, refusal);
-        }
+        Input::Refused(r) => words::collection_refusal(out, r),
         Input::Failed => {}
     }
 }
@@ -145,7 +138,7 @@ fn main() {
         words::help(out);
         return;
     }
-    let mut wanted = [chosen::unread(); chosen::NUMBERS];
+    let mut wanted = [chosen::wanted_at_first(); chosen::NUMBERS];
     if chosen::read_arguments(&mut wanted, &mut space) {
         answer(out, &mut wanted, &mut space);
     } else {

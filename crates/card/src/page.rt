@@ -1,17 +1,17 @@
 // What is printed so far.
 use output::Output;
 
-// The output, and whether an empty line comes before what is printed next.
+// The output, and whether an empty line is due before what is printed next.
 pub struct Page {
     pub out: Output,
-    pub parted: bool,
+    pub gap_due: bool,
 }
 
 impl Page {
     // The output, after the empty line where it is due.
-    pub fn part(self) -> Output {
+    pub fn after_gap(self) -> Output {
         let out = self.out;
-        if self.parted {
+        if self.gap_due {
             return out.text(b"\n");
         }
         out

@@ -22,7 +22,7 @@ pub fn help(out: Output) {
         )
         .text(b"Brackets show what the fault strikes.\n\n")
         .text(b"Example: card 20 < samples/sample.collection\n")
-        .text(b"docs/FORMAT.md explains the words and the numbers.\n");
+        .text(b"docs/FORMAT.md in the repository explains the words and the numbers.\n");
 }
 
 // What the place of a refused body counts.
@@ -61,7 +61,7 @@ pub fn monitorability(out: Output, m: usize) -> Output {
         0 => word.text(b" (true can be found, false cannot)"),
         1 => word.text(b" (false can be found, true cannot)"),
         2 => word.text(b" (true and false can be found)"),
-        _ => word.text(b" (an ugly state is reached: no verdict from there on)"),
+        _ => word.text(b" (an ugly state can be reached: no verdict from there on)"),
     }
 }
 

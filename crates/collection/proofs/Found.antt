@@ -13,7 +13,7 @@ use Rattle.theory.proofs.Scan.{Passed, scan-finds, scan-ends}
 use Rattle.collection.proofs.Answered.{all-answered}
 use Rattle.collection.proofs.Entries.{rises-later}
 use Rattle.collection.specs.declared.Lookup.the-variants.{Entry, Absent}
-use Rattle.collection.specs.Contents.{countOf, ruleOf, rises, firstWith, entryWith, collectionAnswer}
+use Rattle.collection.specs.Contents.{countOf, ruleOf, rises, firstNo, firstWith, entryWith, collectionAnswer}
 
 -- the scan has reached entry i
 module _ (file : List ℕ) (rule : ℕ) {count i : ℕ} (e : count ≡ countOf file) (p : Passed (λ j. eqb (ruleOf file j) rule) 0 count i) where
@@ -36,7 +36,8 @@ module _ (file : List ℕ) (accepted : collectionAnswer file ≡ answered (count
   -- each rule number is greater than the one before
   next-rises : (i : ℕ) → i + 1 < countOf file → ruleOf file i < ruleOf file (i + 1)
   next-rises i h =
-      let none = first-none (λ j. not (rises (ruleOf file) j)) 0 (countOf file) (i + 1) (all-answered file accepted .rise ∙ sym (zero-add (countOf file))) zero-le (omega (arith, h)) in
+      let all : firstNo (rises (ruleOf file)) (countOf file) ≡ 0 + countOf file = all-answered file accepted .rise ∙ sym (zero-add (countOf file)) in
+      let none = first-none (λ j. not (rises (ruleOf file) j)) 0 (countOf file) (i + 1) all zero-le (omega (arith, h)) in
       let e : i + 1 - 1 ≡ i = omega arith in
       let later = rises-later file (i + 1) (λ (q : _≡_ {A = ℕ} (i + 1) 0). omega arith) (ap (ruleOf file) (sym e)) refl in
       ltb-true (ruleOf file i) (ruleOf file (i + 1)) (later ∙ not-false (rises (ruleOf file) (i + 1)) none)

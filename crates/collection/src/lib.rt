@@ -1,4 +1,4 @@
-// A collection of bodies: judging its contents, and an entry's rule number and body.
+// A collection of bodies: judging its contents, an entry's rule number and body, and the entry of a rule number.
 use basics::Refusal;
 ghost use mathlib.Core.Path.{_≡_};
 ghost use Prim.Native.Nat.{_<_};

@@ -5,7 +5,7 @@ use output::Output;
 ghost use Prim.Native.Nat.{_≤_, _<_};
 
 // The columns of a line that states take.
-const COLUMNS: usize = 76;
+const COLUMNS: usize = 56;
 
 // The output, and the columns of the line that are in use.
 struct Row {

@@ -10,7 +10,20 @@ ghost use Prim.Native.Nat.{_≤_, _<_};
 ghost use lib.ListN.{length};
 
 // The columns of a line that a trace takes.
-const COLUMNS: usize = 63;
+const COLUMNS: usize = 43;
+
+// What one of the two traces has where the fault strikes, and what the other has there.
+struct Struck {
+    here: Symbols,
+    other: Symbols,
+}
+
+// What is drawn: a witness with its fault step, by marks or by classes.
+struct Sketch {
+    witness: Witness,
+    fault: Fault,
+    domain: usize,
+}
 
 fn has_two_digits(symbols: Symbols) -> bool {
     if symbols.first > 9 {
@@ -37,7 +50,7 @@ fn no_message(out: Output, wide: bool) -> Output {
 }
 
 // The first of the messages that a fault covers or delivers, if it has one.
-fn first_of(out: Output, symbols: Symbols, wide: bool) -> Output {
+fn first_message(out: Output, symbols: Symbols, wide: bool) -> Output {
     if symbols.count == 0 {
         return no_message(out, wide);
     }
@@ -45,7 +58,7 @@ fn first_of(out: Output, symbols: Symbols, wide: bool) -> Output {
 }
 
 // The second of them, where one of the two traces has two.
-fn second_of(out: Output, symbols: Symbols, other: Symbols, wide: bool) -> Output {
+fn second_message(out: Output, symbols: Symbols, other: Symbols, wide: bool) -> Output {
     if symbols.count == 2 {
         return message(out.text(b" "), symbols.second, wide);
     }
@@ -55,11 +68,13 @@ fn second_of(out: Output, symbols: Symbols, other: Symbols, wide: bool) -> Outpu
     out
 }
 
-// The messages that a fault covers or delivers, in columns that the other trace's messages fit too.
-fn bracket(out: Output, symbols: Symbols, other: Symbols) -> Output {
-    let wide = has_two_digits(symbols) | has_two_digits(other);
-    let begun = first_of(out.text(b"["), symbols, wide);
-    second_of(begun, symbols, other, wide).text(b"]")
+// What a trace has where the fault strikes, in columns that the other trace's messages fit too.
+fn bracket(out: Output, struck: Struck) -> Output {
+    let here = struck.here;
+    let other = struck.other;
+    let wide = has_two_digits(here) | has_two_digits(other);
+    let begun = first_message(out.text(b"["), here, wide);
+    second_message(begun, here, other, wide).text(b"]")
 }
 
 // How many messages from `at` on are written as one item.
@@ -136,18 +151,10 @@ fn line_end(head: &[u8], rest: &[u8], from: usize, end: usize) -> usize
     i
 }
 
-fn item(
-    out: Output,
-    head: &[u8],
-    rest: &[u8],
-    here: Symbols,
-    other: Symbols,
-    i: usize,
-    size: usize,
-) -> Output {
+fn item(out: Output, head: &[u8], rest: &[u8], struck: Struck, i: usize, size: usize) -> Output {
     let parted = out.text(b" ");
     if i == head.len() {
-        return bracket(parted, here, other);
+        return bracket(parted, struck);
     }
     let written = parted.number(message_at(head, rest, i));
     if size > 1 {
@@ -156,21 +163,13 @@ fn item(
     written
 }
 
-// The items from a place on, up to the line's end.
-fn items(
-    out: Output,
-    head: &[u8],
-    rest: &[u8],
-    here: Symbols,
-    other: Symbols,
-    from: usize,
-    end: usize,
-) -> Output {
+// The items from a place up to another.
+fn items(out: Output, head: &[u8], rest: &[u8], struck: Struck, from: usize, to: usize) -> Output {
     let mut after = out;
     let mut i = from;
-    while i < end {
-        let size = basics::least_of(item_size(head, rest, i), end - i);
-        after = item(after, head, rest, here, other, i, size);
+    while i < to {
+        let size = basics::least_of(item_size(head, rest, i), to - i);
+        after = item(after, head, rest, struck, i, size);
         i += size;
     }
     after
@@ -224,46 +223,43 @@ fn line_close(out: Output, last: bool, domain: usize, reading: usize) -> Output 
     out.text(b" ..\n")
 }
 
-// A line of the sent trace and one of the received trace, from a place up to another; the drawing ends at `end`.
+// A line of the sent trace and one of the received trace, from a place up to another. The last two have the readings.
 fn two_lines(
     out: Output,
     head: &[u8],
     rest: &[u8],
-    fault: Fault,
-    w: Witness,
+    sketch: Sketch,
     from: usize,
     to: usize,
-    end: usize,
-    domain: usize,
+    last: bool,
 ) -> Output {
-    let sent = items(
-        sent_margin(out, from),
-        head,
-        rest,
-        fault.sent,
-        fault.received,
-        from,
-        to,
-    );
-    let between = received_margin(line_close(sent, to == end, domain, w.sent), w, from);
-    let received = items(between, head, rest, fault.received, fault.sent, from, to);
-    line_close(received, to == end, domain, w.received)
+    let witness = sketch.witness;
+    let domain = sketch.domain;
+    let fault = sketch.fault;
+    let covered = fault.sent;
+    let delivered = fault.received;
+    let struck = Struck {
+        here: covered,
+        other: delivered,
+    };
+    let sent = items(sent_margin(out, from), head, rest, struck, from, to);
+    let between = line_close(sent, last, domain, witness.sent);
+    let turned = Struck {
+        here: delivered,
+        other: covered,
+    };
+    let margin = received_margin(between, witness, from);
+    let received = items(margin, head, rest, turned, from, to);
+    line_close(received, last, domain, witness.received)
 }
 
-fn lines(
-    out: Output,
-    head: &[u8],
-    rest: &[u8],
-    fault: Fault,
-    w: Witness,
-    end: usize,
-    domain: usize,
-) -> Output {
+// The whole drawing, which ends at a place.
+fn lines(out: Output, head: &[u8], rest: &[u8], sketch: Sketch, end: usize) -> Output {
     let mut after = out;
     let mut from = 0;
     while from < end {
         let to = line_end(head, rest, from, end);
-        after = two_lines(after, head, rest, fault, w, from, to, end, domain);
+        after = two_lines(after, head, rest, sketch, from, to, to == end);
         from = to;
     }
     after
@@ -284,7 +280,7 @@ fn second_symbol(sent: &[u8], w: Witness) -> usize
 }
 
 // The fault step of a witness.
-fn fault_of(sent: &[u8], w: Witness) -> Fault
+fn fault_step(sent: &[u8], w: Witness) -> Fault
     requires { ⌜ w .before < length (now sent) ⌝ }
 {
     let at = w.before;
@@ -293,15 +289,20 @@ fn fault_of(sent: &[u8], w: Witness) -> Fault
 }
 
 // The witness whose sent trace is given. Both tests hold of every witness.
-pub fn draw(out: Output, sent: &[u8], w: Witness, domain: usize) -> Output {
-    let before = w.before;
+pub fn draw(out: Output, sent: &[u8], witness: Witness, domain: usize) -> Output {
+    let before = witness.before;
     if before < sent.len() {
-        let fault = fault_of(sent, w);
+        let fault = fault_step(sent, witness);
         let covered = fault.sent.count;
         if covered <= sent.len() - before {
             let head = &sent[0..before];
             let rest = &sent[before + covered..];
-            return lines(out, head, rest, fault, w, before + 1 + rest.len(), domain);
+            let sketch = Sketch {
+                witness,
+                fault,
+                domain,
+            };
+            return lines(out, head, rest, sketch, before + 1 + rest.len());
         }
     }
     out

@@ -1,4 +1,5 @@
 // Reads a collection from standard input and prints the listing: a header and a line for each entry.
+use basics::Refusal;
 use collection::Collected;
 use input::Input;
 use lines::Line;
@@ -24,14 +25,16 @@ fn print_lines(out: Output, file: &[u8], count: usize) {
     }
 }
 
-fn print_refusal(out: Output, number: usize) {
-    out.text(b"collection refused ").number(number).text(b"\n");
+fn print_refusal(out: Output, r: Refusal) {
+    out.text(b"collection refused ")
+        .number(r.number)
+        .text(b"\n");
 }
 
 fn list(out: Output, file: &[u8]) {
     match collection::judge(file) {
         Collected::Accepted { count } => print_lines(out, file, count),
-        Collected::Refused(r) => print_refusal(out, r.number),
+        Collected::Refused(r) => print_refusal(out, r),
     }
 }
 
@@ -44,7 +47,7 @@ fn print_help(out: Output) {
         )
         .text(b"- where it is immune; or refused, a number and a place.\n\n")
         .text(b"Example: listing < samples/sample.collection\n")
-        .text(b"docs/FORMAT.md explains the words and the numbers.\n");
+        .text(b"docs/FORMAT.md in the repository explains the words and the numbers.\n");
 }
 
 // What the arguments ask: no argument the listing, `--help` the help.
@@ -67,7 +70,7 @@ fn read_arguments(space: &mut [u8]) -> Asked {
 fn answer(out: Output, space: &mut [u8]) {
     match input::read(Program::Listing, space) {
         Input::Whole { length } => list(out, basics::part(space, 0, length)),
-        Input::TooLong => print_refusal(out, 26),
+        Input::Refused(r) => print_refusal(out, r),
         Input::Failed => {}
     }
 }

@@ -1,6 +1,6 @@
 // Standard output of the programs, and the lines that they write to standard error.
 
-// Who writes. The name begins each line on standard error.
+// Who writes: a program for users, or one for the tests. The name begins the line that tells a failure.
 pub enum Program {
     Listing,
     Card,
@@ -73,7 +73,7 @@ impl Output {
         self.text(&digits[..length])
     }
 
-    // Writes the words, and spaces behind them up to so many columns, at most 16.
+    // Writes the words, and as many spaces, at most 16, as bring them to so many columns.
     pub fn padded(self, words: &[u8], columns: usize) -> Output {
         let used = words.len();
         if used < columns {

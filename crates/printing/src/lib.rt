@@ -19,7 +19,7 @@ pub fn refusal(out: Output, r: Refusal) -> Output {
         .number(r.place)
 }
 
-// Refusals of a body, and of what is asked of it: 1 to 13.
+// What is wrong with a body, or with what is asked of it: 1 to 13.
 fn body_reason(out: Output, number: usize) -> Output {
     match number {
         1 => out.text(b"shorter than 3 bytes"),
@@ -39,7 +39,16 @@ fn body_reason(out: Output, number: usize) -> Output {
     }
 }
 
-// The no that a refusal's number stands for, in words.
+// Whether a refusal has this number.
+pub fn has_reason(number: usize) -> bool {
+    match number {
+        1..=13 => true,
+        20..=26 => true,
+        _ => false,
+    }
+}
+
+// What is wrong where a refusal has this number, in words.
 pub fn reason(out: Output, number: usize) -> Output {
     match number {
         20 => out.text(b"shorter than 2 bytes"),
@@ -89,7 +98,7 @@ pub fn bytes(out: Output, list: &[u8]) -> Output {
     after
 }
 
-// The answer of each call.
+// The answers, a function for each call.
 pub fn judgement(out: Output, answer: Judgement) -> Output {
     match answer {
         Judgement::Accepted => out.text(b"accepted"),

@@ -5,10 +5,10 @@ use Rattle.drawing.proofs.traces.items.Statement.{statement}
 use Rattle.drawing.proofs.traces.items.Tie as tie
 
 abbrev Inv-loop : tie.InvT-loop
-Inv-loop head rest here other from end after₀ i₀ after i = Unit {0}
+Inv-loop head rest struck from to after₀ i₀ after i = Unit {0}
 
 abbrev μ-loop : tie.MeasureT-loop
-μ-loop head rest here other from end after₀ i₀ after i = end - i
+μ-loop head rest struck from to after₀ i₀ after i = to - i
 
 pub items-spec : {M : Type 1} → statement M
 items-spec =

@@ -5,7 +5,7 @@ use Rattle.drawing.proofs.traces.line_end.Statement.{statement}
 use Rattle.drawing.proofs.traces.line_end.Tie as tie
 
 abbrev Inv-loop : tie.InvT-loop
-Inv-loop head rest from end used₀ i₀ used i = (from ≤ i) × (i ≤ end) × (used ≤ 63) × (used ≤ 63 * (i - from))
+Inv-loop head rest from end used₀ i₀ used i = (from ≤ i) × (i ≤ end) × (used ≤ 43) × (used ≤ 43 * (i - from))
 
 abbrev μ-loop : tie.MeasureT-loop
 μ-loop head rest from end used₀ i₀ used i = end - i

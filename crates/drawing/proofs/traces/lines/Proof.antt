@@ -5,10 +5,10 @@ use Rattle.drawing.proofs.traces.lines.Statement.{statement}
 use Rattle.drawing.proofs.traces.lines.Tie as tie
 
 abbrev Inv-loop : tie.InvT-loop
-Inv-loop head rest fault w end domain after₀ from₀ after from = Unit {0}
+Inv-loop head rest sketch end after₀ from₀ after from = Unit {0}
 
 abbrev μ-loop : tie.MeasureT-loop
-μ-loop head rest fault w end domain after₀ from₀ after from = end - from
+μ-loop head rest sketch end after₀ from₀ after from = end - from
 
 pub lines-spec : {M : Type 1} → statement M
 lines-spec =
