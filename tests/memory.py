@@ -1,7 +1,8 @@
 """Runs `listing`, `card` and `ask` under valgrind on the largest, shortest and most damaged inputs.
 
 Run from the repository's root: python3 tests/memory.py [FOLDER OF THE PROGRAMS]. What the programs print is not looked
-at here; each invalid read or write, and each decision on a value that was never set, is an error.
+at here; each invalid read or write, and each decision on a value that was never set, is an error. The refusals are
+also run with a full device as output.
 """
 
 import os
@@ -93,12 +94,13 @@ def arguments():
         yield card(collection([(1, A)]), *words)
 
 
-def error_of(case):
+def error_of(case, out=os.devnull):
     """None, or the command, the input and what valgrind said of it."""
     program, words, data = case
     command = ["valgrind", "--error-exitcode=9", "-q", os.path.join(PROGRAMS, program), *words]
     try:
-        done = subprocess.run(command, input=data, capture_output=True, timeout=120)
+        with open(out, "wb") as stdout:
+            done = subprocess.run(command, input=data, stdout=stdout, stderr=subprocess.PIPE, timeout=120)
         status, said = done.returncode, done.stderr.decode("latin-1")
     except subprocess.TimeoutExpired:
         status, said = -1, "no end within 120 seconds"
@@ -115,11 +117,13 @@ def main():
         if not os.access(os.path.join(PROGRAMS, program), os.X_OK):
             sys.exit(f"memory: {os.path.join(PROGRAMS, program)} is missing")
     cases = [*large_tables(), *collections(), *refusals(), *arguments()]
+    full = list(refusals())
     with ThreadPoolExecutor(2) as pool:
-        errors = [error for error in pool.map(error_of, cases) if error is not None]
+        runs = [*pool.map(error_of, cases), *pool.map(error_of, full, ["/dev/full"] * len(full))]
+    errors = [error for error in runs if error is not None]
     if errors:
         sys.exit("\n".join(["memory: an error under valgrind", *errors]))
-    print(f"memory: {len(cases)} runs under valgrind, no error")
+    print(f"memory: {len(runs)} runs under valgrind, {len(full)} of them with a full device, no error")
 
 
 if __name__ == "__main__":
