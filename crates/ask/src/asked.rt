@@ -1,11 +1,9 @@
 // What the arguments ask.
 use arguments::Decimal;
-ghost use mathlib.Core.Path.{_≡_};
-ghost use Prim.Native.Nat.{_≤_, min};
+ghost use Prim.Native.Nat.{_≤_};
 
-// The greatest number of messages in a trace: more than Linux hands over as arguments by its default limit of two
-// million bytes.
-pub const MESSAGE_LIMIT: usize = 262144;
+// The byte @, which begins the argument that names a file.
+const FILE_SIGN: usize = 64;
 
 // What a form is asked of: the body on standard input, the body of a rule of the collection there, or that collection
 // itself, which is only judged.
@@ -15,7 +13,13 @@ pub enum Subject {
     Collection,
 }
 
-// A question about a body, with its numbers. The messages of a trace are the last arguments, so many.
+// Where the messages of a trace are: the last arguments, so many; or the bytes of the file that an argument names.
+pub enum Source {
+    Arguments(usize),
+    File { argument: usize },
+}
+
+// A question about a body, with its numbers.
 pub enum Form {
     Judge,
     Classes {
@@ -28,7 +32,7 @@ pub enum Form {
     },
     Trace {
         domain: usize,
-        count: usize,
+        source: Source,
     },
     Fault {
         set: usize,
@@ -118,17 +122,28 @@ fn classes_asked(subject: Subject, at: usize, behind: usize, space: &mut [u8]) -
     Asked::Form { subject, form }
 }
 
-fn trace_asked(subject: Subject, at: usize, behind: usize, space: &mut [u8]) -> Asked {
+// The messages that so many arguments from `at` on stand for: a file, if there is one argument and it begins with @.
+fn source_asked(at: usize, count: usize, space: &mut [u8]) -> Source {
+    if count == 1 {
+        let length = os::arg(at, space);
+        if basics::byte_at(&space[..length], 0) == FILE_SIGN {
+            return Source::File { argument: at };
+        }
+    }
+    Source::Arguments(count)
+}
+
+fn trace_asked(subject: Subject, at: usize, behind: usize, space: &mut [u8]) -> Asked
+    requires { ⌜ at ≤ 4 ⌝ }
+{
     if behind == 0 {
         return Asked::Unclear;
     }
     let Decimal::Number(domain) = arguments::number_at(at, space) else {
         return Asked::Unclear;
     };
-    let form = Form::Trace {
-        domain,
-        count: behind - 1,
-    };
+    let source = source_asked(at + 1, behind - 1, space);
+    let form = Form::Trace { domain, source };
     Asked::Form { subject, form }
 }
 
@@ -244,29 +259,4 @@ pub fn read(space: &mut [u8]) -> Asked {
         Word::Collection => judge_asked(Subject::Collection, count - 2),
         _ => form_asked(word, Subject::Body, 2, count - 2, space),
     }
-}
-
-// The byte of a message. A greater number becomes 255, which is no message of any table either.
-fn message_byte(number: usize) -> u8
-    ensures { λ r. ⌜ r ≡ min number 255 ⌝ }
-{
-    if number < 255 { number as u8 } else { 255 }
-}
-
-// Fills the area with the program's last arguments. Answers whether there are so many and all are numbers.
-pub fn read_messages(area: &mut [u8], space: &mut [u8]) -> bool {
-    let count = os::arg_count();
-    if count < area.len() {
-        return false;
-    }
-    let first = count - area.len();
-    let mut i = 0;
-    while i < area.len() {
-        let Decimal::Number(message) = arguments::number_at(first + i, space) else {
-            return false;
-        };
-        area[i] = message_byte(message);
-        i += 1;
-    }
-    true
 }

@@ -1,11 +1,12 @@
 // Answers one question: the question as arguments, the body or the collection on standard input, the answer as one
 // line on standard output.
 mod asked;
+mod messages;
 mod words;
 
 use asked::Asked;
 use asked::Form;
-use asked::MESSAGE_LIMIT;
+use asked::Source;
 use asked::Subject;
 use classes::Classification;
 use collection::Collected;
@@ -13,6 +14,7 @@ use collection::Lookup;
 use immunity::Finding;
 use immunity::WITNESS_ROOM;
 use input::Input;
+use messages::Gathered;
 use output::Output;
 use output::Program;
 
@@ -41,7 +43,7 @@ fn examine(out: Output, body: &[u8], set: usize, domain: usize, room: usize) -> 
         return answered;
     };
     let sent = basics::part(lent, 0, witness.distance);
-    printing::bytes(answered.text(b" sent"), sent)
+    printing::counts(printing::bytes(answered.text(b" sent"), sent), answer)
 }
 
 fn of_body(out: Output, form: Form, body: &[u8], messages: &[u8]) -> Output {
@@ -97,31 +99,26 @@ fn answer(subject: Subject, form: Form, messages: &[u8], space: &mut [u8]) {
     }
 }
 
-// The answer to a trace of so many messages.
-fn answer_trace(subject: Subject, form: Form, count: usize, space: &mut [u8]) {
-    if count > MESSAGE_LIMIT {
-        output::complaint(Program::Ask, b"more than 262144 messages");
-        return;
-    }
-    let mut area = [0u8; MESSAGE_LIMIT];
-    let messages = &mut area[0..count];
-    if asked::read_messages(messages, space) {
-        answer(subject, form, messages, space);
-    } else {
-        words::usage();
+// The answer to a trace, after its messages are gathered.
+fn answer_trace(subject: Subject, form: Form, source: Source, space: &mut [u8]) {
+    let mut area = [0u8; messages::ROOM];
+    match messages::gather(source, &mut area, space) {
+        Gathered::Messages { count } => answer(subject, form, basics::part(&area, 0, count), space),
+        Gathered::Unclear => words::usage(),
+        Gathered::Failed => {}
     }
 }
 
 // The answer to a form. Only a trace has room for messages, in a frame of its own. It is called in two places: what is
 // called in one the compiler makes a part of its caller, and then every form would have that room.
 fn answer_form(subject: Subject, form: Form, space: &mut [u8]) {
-    let Form::Trace { count, .. } = form else {
+    let Form::Trace { source, .. } = form else {
         answer(subject, form, b"", space);
         return;
     };
     match subject {
-        Subject::Body => answer_trace(Subject::Body, form, count, space),
-        Subject::Rule(rule) => answer_trace(Subject::Rule(rule), form, count, space),
+        Subject::Body => answer_trace(Subject::Body, form, source, space),
+        Subject::Rule(rule) => answer_trace(Subject::Rule(rule), form, source, space),
         Subject::Collection => words::usage(),
     }
 }

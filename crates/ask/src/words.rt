@@ -5,7 +5,7 @@ use output::Program;
 // A wrong form: one line on standard error.
 pub fn usage() {
     output::error_text(
-        b"usage: ask judge | classes AREA | step READING STATE MESSAGE | trace READING MESSAGE..",
+        b"usage: ask judge | classes AREA | step READING STATE MESSAGE | trace READING MESSAGE.. or @FILE",
     );
     output::error_text(b" | fault SET READING AREA | rule RULE FORM.. | collection | why NUMBER");
     output::error_text(b"; ask --help says more\n");
@@ -20,7 +20,12 @@ fn forms(out: Output) -> Output {
             b"  ask classes AREA                 monitorability, states reached, the class of each state\n",
         )
         .text(b"  ask step READING STATE MESSAGE   the next state and its reading\n")
-        .text(b"  ask trace READING MESSAGE..      the reading after these messages\n")
+        .text(
+            b"  ask trace READING MESSAGE..      the reading after these messages, and after how many its verdict fell\n",
+        )
+        .text(
+            b"  ask trace READING @FILE          the same for the bytes of a file, a message each\n",
+        )
         .text(b"  ask fault SET READING AREA       immune, or vulnerable with the first witness\n")
         .text(b"Or a collection is:\n")
         .text(

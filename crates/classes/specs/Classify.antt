@@ -23,11 +23,11 @@ abbrev pub classifyFigures : Monitor → List ℕ
 classifyFigures m = monitorability m ∷ statesReached m ∷ []
 
 -- the answer of the classes
-unfoldable pub classifyAnswer : ℕ → List ℕ → ℕ → Answer
+unfoldable pub classifyAnswer : ℕ → List ℕ → ℕ → Answer (List ℕ)
 classifyAnswer limit b room =
     asks (tableQuestions limit b ++ classifyQuestions room (monitorOf b)) (classifyFigures (monitorOf b))
 
 -- 01's numbers of a classification
-abbrev pub classification : Classification → Answer
+abbrev pub classification : Classification → Answer (List ℕ)
 classification (Classified m r) = answered (m ∷ r ∷ [])
 classification (Refused r) = refusal r

@@ -100,11 +100,11 @@ collectionQuestions file =
     ∷ []
 
 -- "An accepted collection answers c; a body at fault does not refuse it."
-unfoldable pub collectionAnswer : List ℕ → Answer
+unfoldable pub collectionAnswer : List ℕ → Answer (List ℕ)
 collectionAnswer file = asks (collectionQuestions file) (countOf file ∷ [])
 
 -- 01's number and place of a refusal, or the count
-abbrev pub collected : Collected → Answer
+abbrev pub collected : Collected → Answer (List ℕ)
 collected (Accepted count) = answered (count ∷ [])
 collected (Refused r) = refusal r
 

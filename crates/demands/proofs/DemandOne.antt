@@ -60,14 +60,14 @@ asks-judged qs values = record {
 }
 
 -- the last question asks for room
-asks-lent : (front : List Question) (values bytes area : List ℕ) (size : ℕ) → size ≡ length bytes
+asks-lent : {A : Type 0} (front : List Question) (values : A) (bytes area : List ℕ) (size : ℕ) → size ≡ length bytes
     → Lent (asks (front ++ (question13 size (length area) ∷ [])) values) bytes area
-asks-lent front values bytes area size same = record { untouched = λ number place e. sym (untouched bytes area e); short = go (asks qs values) refl }
+asks-lent {A} front values bytes area size same = record { untouched = λ number place e. sym (untouched bytes area e); short = go (asks qs values) refl }
   where
     qs : List Question
     qs = front ++ (question13 size (length area) ∷ [])
 
-    go : (a : Answer) → asks qs values ≡ a → length area < length bytes → (number : ℕ) × (place : ℕ) × (a ≡ refused number place)
+    go : (a : Answer A) → asks qs values ≡ a → length area < length bytes → (number : ℕ) × (place : ℕ) × (a ≡ refused number place)
     go (refused number place) e l = (number, place, refl)
     go (answered given) e l =
         let q = question13 size (length area) in

@@ -23,18 +23,18 @@ use Rattle.monitor.specs.Format.{statesOf, monitorOf}
 use Rattle.monitor.specs.Questions.{judgeAnswer, tableQuestions}
 use Rattle.monitor.proofs.Accepted.{accepted-table, accepted-asks}
 use Rattle.classes.specs.Classify.{classList, classifyQuestions, classifyFigures, classifyAnswer}
-use Rattle.immunity.specs.Findings.{witnessFigures, witnessTrace, faultQuestions, tableFigures, faultAnswer, faultTrace}
+use Rattle.immunity.specs.Findings.{FaultFigures, witnessFigures, witnessTrace, faultQuestions, tableFigures, faultAnswer, faultTrace}
 use Rattle.demands.specs.DemandTwo.{Published, Askable, Unharmed, Found, immune, vulnerable, DemandTwo}
 
 byte-class : (m : Monitor) (q : ℕ) → q < m .automaton .states → getD (classList m) q 0 ≡ class m q
 byte-class m q l = ap (λ (v : List ℕ). getD v q 0) (sym (append-nil (classList m))) ∙ getD-filled (class m) [] (m .automaton .states) q l
 
 -- a finding without values says that no trace is harmed
-no-values : {m : Monitor} {d set : ℕ} {given bytes : List ℕ} → Found m d set given bytes → given ≡ [] → Unharmed m d set
+no-values : {m : Monitor} {d set : ℕ} {given : FaultFigures} {bytes : List ℕ} → Found m d set given bytes → given ≡ none → Unharmed m d set
 no-values (immune safe) e = safe
 no-values (vulnerable s first shortest) e = absurd (let z : _≡_ {A = ℕ} 0 1 = cc in omega arith)
 
-known : (d : ℕ) → (d ≡ 3) ⊎ (d ≡ 6) → (eqb d 3 || eqb d 6) ≡ true
+pub known : (d : ℕ) → (d ≡ 3) ⊎ (d ≡ 6) → (eqb d 3 || eqb d 6) ≡ true
 known d = ⊎-elim (λ (e : d ≡ 3). rw e) (λ (e : d ≡ 6). rw e)
 
 module _ (limit : ℕ) (b : List ℕ) (e : judgeAnswer limit b ≡ answered []) where
@@ -58,15 +58,15 @@ module _ (limit : ℕ) (b : List ℕ) (e : judgeAnswer limit b ≡ answered []) 
     far : (o : Option Series) → firstWitness m d set ≡ o → Distance m d set (extentOf o)
     far o h = subst (λ (x : Option Series). Distance m d set (extentOf x)) h (distance-exact limit m w d set)
 
-    by-outcome : (o : Option Series) → firstWitness m d set ≡ o → Found m d set (witnessFigures (reading m d) (m .automaton) (m .start) o) (witnessTrace o)
+    by-outcome : (o : Option Series) → firstWitness m d set ≡ o → Found m d set (witnessFigures (reading m d) m o) (witnessTrace o)
     by-outcome none h = immune (far none h)
     by-outcome (some s) h = vulnerable s (witness-first limit m w d set s h) (far (some s) h)
 
-    pub tells : (room : ℕ) (given : List ℕ) → faultAnswer limit b set d room ≡ answered given → Found m d set given (faultTrace b set d)
+    pub tells : (room : ℕ) (given : FaultFigures) → faultAnswer limit b set d room ≡ answered given → Found m d set given (faultTrace b set d)
     unfolding faultAnswer
     tells room given a =
         let same = asks-values (tableQuestions limit b ++ faultQuestions set d (firstWitness m d set) room) (tableFigures m d set) a in
-        subst (λ (v : List ℕ). Found m d set v (faultTrace b set d)) same (by-outcome (firstWitness m d set) refl)
+        subst (λ (v : FaultFigures). Found m d set v (faultTrace b set d)) same (by-outcome (firstWitness m d set) refl)
 
     module _ (a : Askable set d) (room : ℕ) where
       pub given : length (faultTrace b set d) ≤ room → faultAnswer limit b set d room ≡ answered (tableFigures m d set)
@@ -75,16 +75,16 @@ module _ (limit : ℕ) (b : List ℕ) (e : judgeAnswer limit b ≡ answered []) 
           accepted-asks limit b (faultQuestions set d (firstWitness m d set) room) (tableFigures m d set) e
           ∙ rw (le-leb set allFaults (a .set-most), known d (a .reading-known), le-leb (length (faultTrace b set d)) room l)
 
-      says-immune : Unharmed m d set → faultAnswer limit b set d room ≡ answered []
+      says-immune : Unharmed m d set → faultAnswer limit b set d room ≡ answered none
       says-immune safe = go (firstWitness m d set) refl
         where
-          go : (o : Option Series) → firstWitness m d set ≡ o → faultAnswer limit b set d room ≡ answered []
+          go : (o : Option Series) → firstWitness m d set ≡ o → faultAnswer limit b set d room ≡ answered none
           go none h = given (rw h zero-le) ∙ rw h
           go (some s) h = (let f = far (some s) h in absurd (safe (f .word) (f .has)))
 
 pub demand-two : (limit : ℕ) (b : List ℕ) → judgeAnswer limit b ≡ answered [] → (set d room : ℕ) → DemandTwo limit b set d room
 demand-two limit b e set d room = record {
   published = published limit b e room;
-  immune-exactly = λ a. (λ h. no-values (tells limit b e set d room [] h) refl, says-immune limit b e set d a room);
+  immune-exactly = λ a. (λ h. no-values (tells limit b e set d room none h) refl, says-immune limit b e set d a room);
   witness = λ a l. (let h = given limit b e set d a room l in (tableFigures (monitorOf b) d set, h, tells limit b e set d room _ h));
 }

@@ -30,14 +30,14 @@ pub record FirstNo (questions : List Question) (number place : ℕ) : Type 0 whe
   pub its-place : asked .place ≡ place
 
 -- how a list of questions is answered, `values` being what an accepted one answers
-pub record Judged (questions : List Question) (values : List ℕ) (answer : Answer) : Type 0 where
+pub record Judged (questions : List Question) (values : List ℕ) (answer : Answer (List ℕ)) : Type 0 where
   -- accepted exactly if every question is answered yes
   pub accepts : (answer ≡ answered values) ↔ AllYes questions
   -- refused exactly with the number and the place of the first no
   pub refuses : (number place : ℕ) → (answer ≡ refused number place) ↔ FirstNo questions number place
 
 -- a call that is lent an area, by its answer and the bytes of it
-pub record Lent (answer : Answer) (bytes area : List ℕ) : Type 0 where
+pub record Lent {A : Type 0} (answer : Answer A) (bytes area : List ℕ) : Type 0 where
   -- a refusal leaves the area as it was
   pub untouched : (number place : ℕ) → answer ≡ refused number place → written answer bytes area ≡ area
   -- bytes that do not fit are refused

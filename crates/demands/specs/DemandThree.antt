@@ -12,7 +12,7 @@ use Rattle.theory.specs.Extent.{Extent, missing, smaller, AtMost}
 use Rattle.theory.specs.Distance.{Joined, Distance, DistanceOfSeveral, FirstWitness, reads, faultsOf}
 use Rattle.theory.specs.Computed.{distance}
 use Rattle.monitor.specs.Format.{monitorOf}
-use Rattle.immunity.specs.Findings.{faultAnswer, faultTrace}
+use Rattle.immunity.specs.Findings.{FaultFigures, faultAnswer, faultTrace}
 use Rattle.demands.specs.DemandTwo.{Askable, Found}
 
 -- `limit` is the greatest number of states
@@ -22,9 +22,9 @@ pub record DemandThree (limit : ℕ) (b : List ℕ) (F G d : ℕ) : Type 0 where
   pub only : (e : Extent) → Distance (monitorOf b) d F e → e ≡ distance (monitorOf b) d F
   -- the fault question is answered where the area holds the witness
   pub given : (room : ℕ) → Askable F d → length (faultTrace b F d) ≤ room
-      → (values : List ℕ) × (faultAnswer limit b F d room ≡ answered values)
+      → (values : FaultFigures) × (faultAnswer limit b F d room ≡ answered values)
   -- an answer, with an area of any length, tells it, with the first witness; there is no other first
-  pub answers : (room : ℕ) (values : List ℕ) → faultAnswer limit b F d room ≡ answered values
+  pub answers : (room : ℕ) (values : FaultFigures) → faultAnswer limit b F d room ≡ answered values
       → Found (monitorOf b) d F values (faultTrace b F d)
   pub first : (s t : Series) → FirstWitness (monitorOf b) d F s → FirstWitness (monitorOf b) d F t → s ≡ t
   -- it is missing exactly if no two joined traces read differently

@@ -4,6 +4,7 @@ use mathlib.Core.Path.{_≡_}
 use mathlib.Core.Bool.{true}
 use mathlib.Core.List.{List, [], _∷_}
 use mathlib.Core.Logic.{_↔_, _⊎_}
+use mathlib.Core.Option.{none, some}
 use Prim.Native.Nat.{ℕ, _≤_, _<_}
 use lib.ListN.{length, getD}
 use Rattle.theory.specs.Answer.{answered}
@@ -15,7 +16,7 @@ use Rattle.theory.specs.Extent.{number}
 use Rattle.theory.specs.Distance.{Harmed, Distance, FirstWitness}
 use Rattle.monitor.specs.Format.{statesOf, monitorOf}
 use Rattle.classes.specs.Classify.{classList, classifyAnswer}
-use Rattle.immunity.specs.Findings.{seriesFigures, faultAnswer, faultTrace}
+use Rattle.immunity.specs.Findings.{FaultFigures, seriesFigures, faultAnswer, faultTrace}
 
 -- what is answered of the states, for an area of `room` bytes, is what the published definitions say
 pub record Published (limit : ℕ) (b : List ℕ) (room : ℕ) : Type 0 where
@@ -42,18 +43,18 @@ Unharmed m d set = (w : List ℕ) → ¬ (Harmed m d set w)
 
 -- what the values of an answer and the bytes written with it say: immune, and no trace is harmed;
 -- or the figures and the sent trace of the first witness, and no harmed trace is shorter
-pub data Found (m : Monitor) (d set : ℕ) : List ℕ → List ℕ → Type 0 where
-  immune : Unharmed m d set → Found m d set [] []
+pub data Found (m : Monitor) (d set : ℕ) : FaultFigures → List ℕ → Type 0 where
+  immune : Unharmed m d set → Found m d set none []
   vulnerable : (s : Series) → FirstWitness m d set s → Distance m d set (number (length (sentTrace s)))
-      → Found m d set (seriesFigures (reading m d) (m .automaton) (m .start) s) (sentTrace s)
+      → Found m d set (some (seriesFigures (reading m d) m s)) (sentTrace s)
 
 -- an accepted table, a fault set, a reading and an area of any length; `limit` is the greatest number of states
 pub record DemandTwo (limit : ℕ) (b : List ℕ) (set d room : ℕ) : Type 0 where
   -- classes, monitorability and the states reached
   pub published : Published limit b room
   -- immune is said exactly if no trace is harmed
-  pub immune-exactly : Askable set d → (faultAnswer limit b set d room ≡ answered []) ↔ Unharmed (monitorOf b) d set
+  pub immune-exactly : Askable set d → (faultAnswer limit b set d room ≡ answered none) ↔ Unharmed (monitorOf b) d set
   -- else, where the area holds it, the first witness is told, a shortest one
   pub witness : Askable set d → length (faultTrace b set d) ≤ room
-      → (values : List ℕ) × (faultAnswer limit b set d room ≡ answered values)
+      → (values : FaultFigures) × (faultAnswer limit b set d room ≡ answered values)
       × Found (monitorOf b) d set values (faultTrace b set d)

@@ -6,11 +6,12 @@ use faults::Kind;
 use faults::Symbols;
 use immunity::Witness;
 use output::Output;
+use readings::Count;
 ghost use Prim.Native.Nat.{_≤_, _<_};
 ghost use lib.ListN.{length};
 
 // The columns of a line that a trace takes.
-const COLUMNS: usize = 43;
+const COLUMNS: usize = 36;
 
 // What one of the two traces has where the fault strikes, and what the other has there.
 struct Struck {
@@ -215,10 +216,18 @@ fn received_margin(out: Output, w: Witness, from: usize) -> Output {
     three_columns(out.text(b"    distance "), w.distance).text(b"  received ")
 }
 
-// The end of a line: the reading, or a sign that the trace goes on.
-fn line_close(out: Output, last: bool, domain: usize, reading: usize) -> Output {
+// After how many messages the verdict fell, if it did.
+fn fallen(out: Output, count: Count) -> Output {
+    match count {
+        Count::After(n) => out.text(b" after ").number(n),
+        Count::Never => out,
+    }
+}
+
+// The end of a line: the reading, and when its verdict fell; or a sign that the trace goes on.
+fn line_close(out: Output, last: bool, domain: usize, reading: usize, count: Count) -> Output {
     if last {
-        return reading_word(out.text(b"  "), domain, reading).text(b"\n");
+        return fallen(reading_word(out.text(b"  "), domain, reading), count).text(b"\n");
     }
     out.text(b" ..\n")
 }
@@ -243,14 +252,17 @@ fn two_lines(
         other: delivered,
     };
     let sent = items(sent_margin(out, from), head, rest, struck, from, to);
-    let between = line_close(sent, last, domain, witness.sent);
+    let counts = witness.counts;
+    let sent_count = counts.sent;
+    let received_count = counts.received;
+    let between = line_close(sent, last, domain, witness.sent, sent_count);
     let turned = Struck {
         here: delivered,
         other: covered,
     };
     let margin = received_margin(between, witness, from);
     let received = items(margin, head, rest, turned, from, to);
-    line_close(received, last, domain, witness.received)
+    line_close(received, last, domain, witness.received, received_count)
 }
 
 // The whole drawing, which ends at a place.

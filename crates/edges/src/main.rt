@@ -172,12 +172,22 @@ fn traces() {
     trace(b"E on 1 1: ", e, 3, b"\x01\x01");
     trace(b"E on 1 1 by class: ", e, 6, b"\x01\x01");
     trace(b"E on 1 0 1: ", e, 3, b"\x01\x00\x01");
-    trace(
-        b"a start marked true: ",
-        b"\x02\x01\x00\x01\x00\x00\x01",
-        3,
-        b"",
-    );
+}
+
+// After how many messages the verdict falls, by the mark under both readings.
+fn counts() {
+    let a = b"\x02\x02\x00\x00\x01\x00\x01\x01\x01";
+    let e = b"\x03\x02\x00\x00\x00\x01\x00\x01\x00\x02\x02\x02";
+    let h = b"\x02\x01\x00\x00\x01\x01\x01";
+    let marked = b"\x02\x01\x00\x01\x00\x00\x01";
+    trace(b"E on 1 1 0: ", e, 3, b"\x01\x01\x00");
+    trace(b"E on 1 0 1 by class: ", e, 6, b"\x01\x00\x01");
+    trace(b"A on 0 0 1 0: ", a, 3, b"\x00\x00\x01\x00");
+    trace(b"A on 0 0 1 0 by class: ", a, 6, b"\x00\x00\x01\x00");
+    trace(b"H, empty trace: ", h, 3, b"");
+    trace(b"H on 0: ", h, 6, b"\x00");
+    trace(b"a start marked true: ", marked, 3, b"");
+    trace(b"a start marked true on 0 0: ", marked, 6, b"\x00\x00");
 }
 
 fn trace_refusals() {
@@ -186,6 +196,12 @@ fn trace_refusals() {
     trace(b"reading 5, message 9: ", e, 5, b"\x09");
     trace(b"a refused body: ", b"", 3, b"");
     trace(b"E on 65700 messages: ", e, 3, &long(0));
+    trace(
+        b"A, true at the last: ",
+        b"\x02\x02\x00\x00\x01\x00\x01\x01\x01",
+        3,
+        &long(1),
+    );
     trace(b"and the last is 2: ", e, 3, &long(2));
 }
 
@@ -199,5 +215,6 @@ fn main() {
     step_refusals();
     steps();
     traces();
+    counts();
     trace_refusals();
 }

@@ -18,6 +18,10 @@ count-two i some more = omega (arith, i .count-most, some, more)
 pub inside : {k c a b : ℕ} {s : Symbols} → s ≡ record { count = c; first = a; second = b } → c ≤ 2 → a < k → b < k → Inside k s
 inside e l la lb = rw e (record { count-most = l; first-in = la; second-in = lb })
 
+-- also below a greater bound
+pub inside-wider : {k m : ℕ} {s : Symbols} → Inside k s → k ≤ m → Inside m s
+inside-wider i l = record { count-most = i .count-most; first-in = omega (arith, i .first-in); second-in = omega (arith, i .second-in) }
+
 -- ---- one symbol, or two, from p
 
 module _ (g : Automaton) {p a x : ℕ} (first : x ≡ g .next p a) where

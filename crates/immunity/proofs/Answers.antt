@@ -1,7 +1,7 @@
 -- The answer for one fault set, under each outcome of the search.
 use mathlib.Core.Path.{_≡_, refl, sym, ap, _∙_}
 use mathlib.Core.Bool.{Bool}
-use mathlib.Core.List.{List, []}
+use mathlib.Core.List.{List}
 use mathlib.Core.Logic.{⊎-elim}
 use mathlib.Core.Option.{Option, none, some}
 use Prim.Native.Nat.{ℕ, _+_, _≤_, _<_, zero-le}
@@ -10,7 +10,7 @@ use lib.ListN.{length, getD}
 use lib.Seq.{sets, sets-eq}
 use borrow.Author.Tests.{le-leb, lt-leb}
 use Rattle.theory.specs.Automaton.{Automaton}
-use Rattle.theory.specs.Monitor.{stateLimit}
+use Rattle.theory.specs.Monitor.{Monitor, stateLimit}
 use Rattle.theory.specs.Faults.{steps}
 use Rattle.theory.specs.Answer.{Answer, refused, answered, asks, written}
 use Rattle.theory.specs.Series.{Series, sentTrace}
@@ -19,7 +19,7 @@ use Rattle.theory.proofs.Below.{lt-or-le}
 use Rattle.theory.proofs.Faults.{steps-good, steps-rise}
 use Rattle.theory.proofs.Witness.{none-harms, first-harms, first-least}
 use Rattle.pairs.specs.Square.{never}
-use Rattle.immunity.specs.Findings.{seriesFigures, witnessFigures, witnessTrace, roomQuestions}
+use Rattle.immunity.specs.Findings.{WitnessFigures, FaultFigures, seriesFigures, witnessFigures, witnessTrace, roomQuestions}
 use Rattle.immunity.proofs.Search.{Searched, total-least, total-found, search-none}
 
 module _ {g : Automaton} {ends : ℕ → ℕ → Bool} {set : ℕ} {square costs v : List ℕ} (h : Searched g ends set square costs v) {start : ℕ}
@@ -49,11 +49,11 @@ module _ {g : Automaton} {ends : ℕ → ℕ → Bool} {set : ℕ} {square costs
           let z = f .2 in
           (s, e, omega (arith, x, y, z))
 
-  module _ (read : ℕ → ℕ) (room : ℕ) where
-    abbrev answer : Answer
-    answer = asks (roomQuestions first room) (witnessFigures read g start first)
+  module _ (read : ℕ → ℕ) (m : Monitor) (room : ℕ) where
+    abbrev answer : Answer FaultFigures
+    answer = asks (roomQuestions first room) (witnessFigures read m first)
 
-    pub says-immune : g .states ≤ stateLimit → never ≤ total → answered [] ≡ answer
+    pub says-immune : g .states ≤ stateLimit → never ≤ total → answered none ≡ answer
     says-immune small e = rw (search-none h small start start-in e, le-leb 0 room zero-le)
 
     pub says-no-room : total < never → room < total → refused 13 0 ≡ answer
@@ -62,17 +62,17 @@ module _ {g : Automaton} {ends : ℕ → ℕ → Bool} {set : ℕ} {square costs
         let z = s .2 in
         rw (s .1, lt-leb (length (sentTrace (s .0))) room (omega (arith, z, l)))
 
-    pub says-vulnerable : {values : List ℕ} → total < never → total ≤ room → ((s : Series) → first ≡ some s → values ≡ seriesFigures read g start s)
-        → answered values ≡ answer
+    pub says-vulnerable : {values : WitnessFigures} → total < never → total ≤ room → ((s : Series) → first ≡ some s → values ≡ seriesFigures read m s)
+        → answered (some values) ≡ answer
     says-vulnerable low l are =
         let s = search-some low in
         let z = s .2 in
-        ap answered (are (s .0) (s .1)) ∙ sym (rw (s .1, le-leb (length (sentTrace (s .0))) room (omega (arith, z, l))))
+        ap (λ (w : WitnessFigures). answered (some w)) (are (s .0) (s .1)) ∙ sym (rw (s .1, le-leb (length (sentTrace (s .0))) room (omega (arith, z, l))))
 
-  pub immune-keeps : (area : List ℕ) → g .states ≤ stateLimit → never ≤ total → area ≡ written (answered []) (witnessTrace first) area
+  pub immune-keeps : (area : List ℕ) → g .states ≤ stateLimit → never ≤ total → area ≡ written {A = FaultFigures} (answered none) (witnessTrace first) area
   immune-keeps area small e = rw (search-none h small start start-in e)
 
-  pub witness-fills : (values area : List ℕ) {after : List ℕ} → total < never → total ≤ length area
+  pub witness-fills : {A : Type 0} (values : A) (area : List ℕ) {after : List ℕ} → total < never → total ≤ length area
       → ((s : Series) → first ≡ some s → after ≡ sets area 0 (sentTrace s)) → after ≡ written (answered values) (witnessTrace first) area
   witness-fills values area low l is =
       let s = search-some low in

@@ -1,5 +1,5 @@
 -- The witness as it is made: the way to the fault, the fault step, and the path after it are the first harmful series.
-use mathlib.Core.Path.{_≡_, sym, ap, _∙_, subst}
+use mathlib.Core.Path.{_≡_, refl, sym, ap, _∙_, subst}
 use mathlib.Core.Bool.{Bool}
 use mathlib.Core.List.{List, [], _∷_, _++_}
 use mathlib.Core.Option.{some}
@@ -20,23 +20,18 @@ use Rattle.monitor.specs.declared.Shape.{Shape}
 use Rattle.monitor.proofs.Rows.{next-of-rows}
 use Rattle.pairs.specs.Square.{never, entry, differing, path}
 use Rattle.pairs.proofs.Path.{path-length}
-use Rattle.faults.specs.declared.Symbols.{Symbols}
 use Rattle.faults.specs.declared.Fault.{Fault}
-use Rattle.faults.specs.Kinds.{bitOf}
 use Rattle.faults.specs.Steps.{stepFor, Inside, Ranged, costOf, costing, Costs}
 use Rattle.faults.proofs.AtMostTwo.{count-is}
 use Rattle.totals.specs.Totals.{Relaxed, wayToFault}
-use Rattle.immunity.specs.Findings.{seriesFigures}
-use Rattle.immunity.specs.Search.{automatonIn, Posed, Ready}
+use Rattle.immunity.specs.declared.Harm.{Harm}
+use Rattle.immunity.specs.Search.{automatonIn, Posed, Ready, Makes}
 use Rattle.immunity.proofs.Search.{Searched, search-finds, cost-sum}
 
 pub sets-append : (l : List ℕ) (i : ℕ) (xs ys : List ℕ) → sets (sets l i xs) (i + length xs) ys ≡ sets l i (xs ++ ys)
 sets-append l i [] ys = ap (λ (j : ℕ). sets l j ys) (add-zero i)
 sets-append l i (x ∷ xs) ys =
     ap (λ (j : ℕ). sets (sets (set l i x) (suc i) xs) j ys) (add-suc i (length xs) ∙ sym (suc-add i (length xs))) ∙ sets-append (set l i x) (suc i) xs ys
-
-pub inside-wider : {k m : ℕ} {s : Symbols} → Inside k s → k ≤ m → Inside m s
-inside-wider i l = record { count-most = i .count-most; first-in = omega (arith, i .first-in); second-in = omega (arith, i .second-in) }
 
 pub searched : (set : ℕ) {t : Shape} {outs square costs v ts : List ℕ} → Posed t outs square ts
     → Costs (automatonIn t ts) square (steps set (t .symbols)) (t .states) costs → Relaxed (automatonIn t ts) costs v
@@ -137,15 +132,25 @@ module _ {g : Automaton} {ends : ℕ → ℕ → Bool} {set : ℕ} {square costs
       ∙ sets-append area 0 way (step .sent ++ made .after))
       ∙ ap (λ (t : Series). sets area 0 (sentTrace t)) (made-is e)
 
-  -- the figures of the witness made
-  pub made-figures : {s : Series} (outs : List ℕ) {x y p q : ℕ} → firstHarmful g ends (steps set (g .symbols)) start ≡ some s
+  -- what is handed out is the first series
+  pub made-makes : {s : Series} (outs : List ℕ) {x y p q : ℕ} → firstHarmful g ends (steps set (g .symbols)) start ≡ some s
       → p ≡ run g state (step .sent) → q ≡ run g state (step .received)
       → x ≡ run g p (path g square (entry square p q) p q) → y ≡ run g q (path g square (entry square p q) p q)
-      → _≡_ {A = List ℕ} (getD v start 0 ∷ count ∷ bitOf (fault .kind) ∷ fault .replacement ∷ getD outs x 0 ∷ getD outs y 0 ∷ [])
-      (seriesFigures (λ r. getD outs r 0) g start s)
-  made-figures {s} outs e ep eq ex ey =
-      rw (distance, k .is-count, ex, ey, ep, eq, sent, received) (ap (seriesFigures (λ r. getD outs r 0) g start) (made-is e))
+      → Makes g start outs s (record { distance = getD v start 0; before = count; fault = fault; sent = getD outs x 0; received = getD outs y 0 })
+  made-makes {s} outs {x} {y} e ep eq ex ey =
+      subst (λ (z : Series). Makes g start outs z harm) (made-is e)
+      (record {
+        distance = distance;
+        before = k .is-count;
+        fault = refl;
+        ranged = k .ranged;
+        sent = rw (ex, ep, eq) (ap (λ (r : ℕ). getD outs r 0) sent);
+        received = rw (ey, ep, eq) (ap (λ (r : ℕ). getD outs r 0) received);
+      })
     where
+      harm : Harm
+      harm = record { distance = getD v start 0; before = count; fault = fault; sent = getD outs x 0; received = getD outs y 0 }
+
       distance : getD v start 0 ≡ length (sentTrace made)
       distance =
           (let x = made-sum in let y = sent-length made in let z = path-length g square apart (run g state (step .sent)) (run g state (step .received)) in

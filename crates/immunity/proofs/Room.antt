@@ -16,7 +16,7 @@ use Rattle.theory.proofs.Faults.{steps-good, steps-rise}
 use Rattle.theory.proofs.Witness.{first-harms}
 use Rattle.immunity.specs.Findings.{roomQuestions}
 
-pub room-enough : (limit : ℕ) (m : Monitor) → WellFormed limit m → (d set room : ℕ) → horizon limit ≤ room → (values : List ℕ)
+pub room-enough : (limit : ℕ) (m : Monitor) → WellFormed limit m → (d set room : ℕ) → horizon limit ≤ room → {A : Type 0} (values : A)
     → asks (roomQuestions (firstWitness m d set) room) values ≡ answered values
 room-enough limit m w d set room large values = go (firstWitness m d set) refl
   where

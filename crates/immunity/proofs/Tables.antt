@@ -24,7 +24,7 @@ use Rattle.pairs.specs.Square.{differing}
 use Rattle.faults.specs.declared.Kind.{Kind}
 use Rattle.faults.specs.Kinds.{rankOf, bitOf}
 use Rattle.faults.proofs.ByKind.{bit-is}
-use Rattle.immunity.specs.Findings.{witnessFigures, witnessTrace, roomQuestions, tableFigures, columnFigures}
+use Rattle.immunity.specs.Findings.{FaultFigures, witnessFigures, witnessTrace, roomQuestions, tableFigures, columnFigures}
 use Rattle.immunity.specs.Search.{answerOf}
 use Rattle.immunity.proofs.Room.{room-enough}
 
@@ -49,11 +49,11 @@ module _ {limit n k start : ℕ} {vs ts : List ℕ} (t : Table limit n k start v
       harmful-same (automatonOf n k ts) (differing outs) (differ m d) (steps set k) (t .well-formed .closed) (steps-good (automatonOf n k ts) set)
       (λ p q lp lq. rw (read p lp, read q lq)) start (t .well-formed .start-in)
 
-  figures-same : witnessFigures (λ q. getD outs q 0) (automatonOf n k ts) start (firstWitness m d set) ≡ tableFigures m d set
+  figures-same : witnessFigures (λ q. getD outs q 0) m (firstWitness m d set) ≡ tableFigures m d set
   figures-same = go (firstWitness m d set) refl
     where
       go : (o : Option Series) → firstWitness m d set ≡ o
-          → witnessFigures (λ q. getD outs q 0) (automatonOf n k ts) start o ≡ witnessFigures (reading m d) (automatonOf n k ts) start o
+          → witnessFigures (λ q. getD outs q 0) m o ≡ witnessFigures (reading m d) m o
       go none e = refl
       go (some s) e =
           let w = t .well-formed in
@@ -65,16 +65,16 @@ module _ {limit n k start : ℕ} {vs ts : List ℕ} (t : Table limit n k start v
                 (run-in (w .closed) start (receivedTrace s) (w .start-in) (received-trace g (steps set k) (steps-good g set) s v)),
           )
 
-  pub table-answer : (room : ℕ) {r : Answer}
+  pub table-answer : (room : ℕ) {r : Answer FaultFigures}
       → r ≡ asks (roomQuestions (firstHarmful (automatonOf n k ts) (differing outs) (steps set k) start) room)
-      (witnessFigures (λ q. getD outs q 0) (automatonOf n k ts) start (firstHarmful (automatonOf n k ts) (differing outs) (steps set k) start))
+      (witnessFigures (λ q. getD outs q 0) m (firstHarmful (automatonOf n k ts) (differing outs) (steps set k) start))
       → r ≡ asks (roomQuestions (firstWitness m d set) room) (tableFigures m d set)
   table-answer room e =
       e
-      ∙ ap (λ (o : Option Series). asks (roomQuestions o room) (witnessFigures (λ q. getD outs q 0) (automatonOf n k ts) start o)) first-same
+      ∙ ap (λ (o : Option Series). asks (roomQuestions o room) (witnessFigures (λ q. getD outs q 0) m o)) first-same
       ∙ ap (asks (roomQuestions (firstWitness m d set) room)) figures-same
 
-  pub table-area : (r : Answer) (area : List ℕ) {after : List ℕ}
+  pub table-area : (r : Answer FaultFigures) (area : List ℕ) {after : List ℕ}
       → after ≡ written r (witnessTrace (firstHarmful (automatonOf n k ts) (differing outs) (steps set k) start)) area
       → after ≡ written r (witnessTrace (firstWitness m d set)) area
   table-area r area e = e ∙ ap (λ (o : Option Series). written r (witnessTrace o) area) first-same
@@ -89,12 +89,12 @@ module _ {limit n k start : ℕ} {vs ts : List ℕ} (t : Table limit n k start v
   table = tableOf n k start vs ts
 
   -- the finding for one fault set by marks, from an area that every witness fits
-  pub marks-answer : (set room : ℕ) → horizon limit ≤ room → {r : Answer} → r ≡ answerOf (shape n k start) vs ts set room
+  pub marks-answer : (set room : ℕ) → horizon limit ≤ room → {r : Answer FaultFigures} → r ≡ answerOf (shape n k start) vs vs ts set room
       → r ≡ answered (tableFigures table 3 set)
   marks-answer set room large e =
       table-answer t 3 set vs marks-read room e ∙ room-enough limit table (t .well-formed) 3 set room large (tableFigures table 3 set)
 
 -- a set built by adding one kind to the empty set
-pub alone : (m : Monitor) (rank : ℕ) (kind : Kind) {none one : ℕ} {r : Answer} → rankOf kind ≡ rank → none ≡ 0 → one ≡ bitOr none (bitOf kind)
+pub alone : (m : Monitor) (rank : ℕ) (kind : Kind) {none one : ℕ} {r : Answer FaultFigures} → rankOf kind ≡ rank → none ≡ 0 → one ≡ bitOr none (bitOf kind)
     → r ≡ answered (tableFigures m 3 one) → r ≡ answered (columnFigures rank m)
 alone m rank kind ek e₀ e₁ er = er ∙ rw (e₁, e₀, bit-is kind, ek)

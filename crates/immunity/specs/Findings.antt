@@ -4,8 +4,10 @@ use mathlib.Core.Option.{Option, none, some}
 use Prim.Native.Nat.{ℕ, _^_}
 use lib.ListN.{length}
 use Rattle.theory.specs.Answer.{Question, Answer, answered, asks}
-use Rattle.theory.specs.Automaton.{Automaton, run}
+use Rattle.theory.specs.Automaton.{run}
+use Rattle.theory.specs.Extent.{Extent}
 use Rattle.theory.specs.Monitor.{Monitor, reading, monitorability}
+use Rattle.theory.specs.Count.{verdictCount}
 use Rattle.theory.specs.Faults.{kinds}
 use Rattle.theory.specs.Lists.{each}
 use Rattle.theory.specs.Series.{Series, sentTrace, receivedTrace}
@@ -14,6 +16,7 @@ use Rattle.basics.specs.Refusals.{refusal}
 use Rattle.monitor.specs.Format.{monitorOf}
 use Rattle.monitor.specs.Questions.{tableQuestions, question9, question10, question13}
 use Rattle.faults.specs.Kinds.{bitOf}
+use Rattle.readings.specs.Readings.{counted}
 use Rattle.immunity.specs.declared.Witness.{Witness}
 use Rattle.immunity.specs.declared.Finding.{Finding}
 use Rattle.immunity.specs.declared.Finding.the-variants.{Refused, Immune, Vulnerable}
@@ -21,26 +24,45 @@ use Rattle.immunity.specs.declared.Column.{Column}
 use Rattle.immunity.specs.declared.Summary.{Summary}
 use Rattle.immunity.specs.declared.LinkCard.{LinkCard}
 
+-- the values of a witness: 01's six numbers, and two counts
+pub record WitnessFigures : Type 0 where
+  pub numbers : List ℕ
+  pub sent-count : Extent
+  pub received-count : Extent
+
 -- "The answer has the distance (sent length), the number of messages before the fault, its kind (the fixed bit),
 -- the replacement (0 except for corruption) and both readings."
-abbrev pub seriesFigures : (ℕ → ℕ) → Automaton → ℕ → Series → List ℕ
-seriesFigures read g q s =
+abbrev pub seriesNumbers : (ℕ → ℕ) → Monitor → Series → List ℕ
+seriesNumbers read m s =
     length (sentTrace s)
     ∷ length (s .before)
     ∷ s .fault .kind
     ∷ s .fault .replacement
-    ∷ read (run g q (sentTrace s))
-    ∷ read (run g q (receivedTrace s))
+    ∷ read (run (m .automaton) (m .start) (sentTrace s))
+    ∷ read (run (m .automaton) (m .start) (receivedTrace s))
     ∷ []
 
--- immune answers no values
-abbrev pub witnessFigures : (ℕ → ℕ) → Automaton → ℕ → Option Series → List ℕ
-witnessFigures read g q none = []
-witnessFigures read g q (some s) = seriesFigures read g q s
+-- "Every witness carries the count of its sent and of its received trace as well" (02, note 1): by the marks, whatever
+-- is read
+abbrev pub seriesFigures : (ℕ → ℕ) → Monitor → Series → WitnessFigures
+seriesFigures read m s = record {
+  numbers = seriesNumbers read m s;
+  sent-count = verdictCount m (sentTrace s);
+  received-count = verdictCount m (receivedTrace s);
+}
+
+-- the values of a fault question: none for immune
+abbrev pub FaultFigures : Type 0
+FaultFigures = Option WitnessFigures
+
+-- the values for the first witness, where there is one
+abbrev pub witnessFigures : (ℕ → ℕ) → Monitor → Option Series → FaultFigures
+witnessFigures read m none = none
+witnessFigures read m (some s) = some (seriesFigures read m s)
 
 -- what a table's fault question answers
-abbrev pub tableFigures : Monitor → ℕ → ℕ → List ℕ
-tableFigures m d set = witnessFigures (reading m d) (m .automaton) (m .start) (firstWitness m d set)
+abbrev pub tableFigures : Monitor → ℕ → ℕ → FaultFigures
+tableFigures m d set = witnessFigures (reading m d) m (firstWitness m d set)
 
 -- "A witness fills the first bytes of the area with the sent trace"; "Immune also writes nothing."
 abbrev pub witnessTrace : Option Series → List ℕ
@@ -56,7 +78,7 @@ abbrev pub faultQuestions : ℕ → ℕ → Option Series → ℕ → List Quest
 faultQuestions set d w room = question9 set ∷ question10 d ∷ roomQuestions w room
 
 -- the answer of the fault question
-unfoldable pub faultAnswer : ℕ → List ℕ → ℕ → ℕ → ℕ → Answer
+unfoldable pub faultAnswer : ℕ → List ℕ → ℕ → ℕ → ℕ → Answer FaultFigures
 faultAnswer limit b set d room =
     asks (tableQuestions limit b ++ faultQuestions set d (firstWitness (monitorOf b) d set) room)
     (tableFigures (monitorOf b) d set)
@@ -65,15 +87,19 @@ faultAnswer limit b set d room =
 abbrev pub faultTrace : List ℕ → ℕ → ℕ → List ℕ
 faultTrace b set d = witnessTrace (firstWitness (monitorOf b) d set)
 
--- the six values of a witness, in 01's order
-abbrev pub witnessValues : Witness → List ℕ
-witnessValues w = w .distance ∷ w .before ∷ bitOf (w .kind) ∷ w .replacement ∷ w .sent ∷ w .received ∷ []
+-- the values of a witness, its numbers in 01's order
+abbrev pub witnessValues : Witness → WitnessFigures
+witnessValues w = record {
+  numbers = w .distance ∷ w .before ∷ bitOf (w .kind) ∷ w .replacement ∷ w .sent ∷ w .received ∷ [];
+  sent-count = counted (w .counts .sent);
+  received-count = counted (w .counts .received);
+}
 
 -- 01's number and place of a refusal, or the values of a finding
-abbrev pub finding : Finding → Answer
+abbrev pub finding : Finding → Answer FaultFigures
 finding (Refused r) = refusal r
-finding Immune = answered []
-finding (Vulnerable w) = answered (witnessValues w)
+finding Immune = answered none
+finding (Vulnerable w) = answered (some (witnessValues w))
 
 -- ---- the card
 
@@ -82,13 +108,13 @@ abbrev pub summaryFigures : Monitor → List ℕ
 summaryFigures m = m .automaton .states ∷ monitorability m ∷ []
 
 -- the column of rank c: what the fault question of that fault alone answers under reading 3
-abbrev pub columnFigures : ℕ → Monitor → List ℕ
+abbrev pub columnFigures : ℕ → Monitor → FaultFigures
 columnFigures c m = tableFigures m 3 (2 ^ c)
 
 -- the answer of a card: its summary, and its columns in the written order of the faults
 pub record CardAnswer : Type 0 where
-  pub summary : Answer
-  pub columns : List Answer
+  pub summary : Answer (List ℕ)
+  pub columns : List (Answer FaultFigures)
 
 -- a summary and columns with these values, after these questions
 abbrev pub cardAsking : List Question → Monitor → CardAnswer
@@ -102,12 +128,12 @@ unfoldable pub cardAnswer : ℕ → List ℕ → CardAnswer
 cardAnswer limit b = cardAsking (tableQuestions limit b) (monitorOf b)
 
 -- 01's number and place of a refusal, or the values of a summary
-abbrev pub summarised : Summary → Answer
+abbrev pub summarised : Summary → Answer (List ℕ)
 summarised (Summary.Table states monitorability) = answered (states ∷ monitorability ∷ [])
 summarised (Summary.Refused r) = refusal r
 
 -- the findings of the columns, one after the other
-abbrev pub found : List Column → List Answer
+abbrev pub found : List Column → List (Answer FaultFigures)
 found [] = []
 found (column ∷ columns) = finding (column .finding) ∷ found columns
 

@@ -6,31 +6,36 @@ use mathlib.Core.Option.{Option}
 use Prim.Native.Nat.{ℕ, _≤_, _<_}
 use lib.ListN.{length, getD}
 use Rattle.theory.specs.Answer.{Answer, asks}
-use Rattle.theory.specs.Automaton.{Automaton}
-use Rattle.theory.specs.Monitor.{stateLimit}
+use Rattle.theory.specs.Automaton.{Automaton, run}
+use Rattle.theory.specs.Monitor.{Monitor, stateLimit}
 use Rattle.theory.specs.Faults.{steps}
-use Rattle.theory.specs.Series.{Series}
+use Rattle.theory.specs.Series.{Series, sentTrace, receivedTrace}
 use Rattle.theory.specs.Computed.{firstHarmful}
-use Rattle.monitor.specs.Format.{automatonOf, Rows}
+use Rattle.monitor.specs.Format.{automatonOf, tableOf, Rows}
 use Rattle.monitor.specs.declared.Shape.{Shape}
 use Rattle.pairs.specs.Square.{never, Squared, differing}
-use Rattle.faults.specs.Steps.{Costs}
+use Rattle.faults.specs.Steps.{stepFor, Ranged, Costs}
 use Rattle.totals.specs.Totals.{Relaxed}
-use Rattle.immunity.specs.Findings.{witnessFigures, roomQuestions}
+use Rattle.immunity.specs.declared.Harm.{Harm}
+use Rattle.immunity.specs.Findings.{FaultFigures, witnessFigures, roomQuestions}
 
 -- the automaton of a shape and its next states
 abbrev pub automatonIn : Shape → List ℕ → Automaton
 automatonIn t ts = automatonOf (t .states) (t .symbols) ts
+
+-- with its marks, the monitor
+abbrev pub monitorFrom : Shape → List ℕ → List ℕ → Monitor
+monitorFrom t vs ts = tableOf (t .states) (t .symbols) (t .start) vs ts
 
 -- the first harmful series of a table whose states have these outputs
 abbrev pub firstOf : Shape → List ℕ → List ℕ → ℕ → Option Series
 firstOf t outs ts set = firstHarmful (automatonIn t ts) (differing outs) (steps set (t .symbols)) (t .start)
 
 -- what it answers for an area of `room` bytes
-abbrev pub answerOf : Shape → List ℕ → List ℕ → ℕ → ℕ → Answer
-answerOf t outs ts set room =
+abbrev pub answerOf : Shape → List ℕ → List ℕ → List ℕ → ℕ → ℕ → Answer FaultFigures
+answerOf t vs outs ts set room =
     asks (roomQuestions (firstOf t outs ts set) room)
-    (witnessFigures (λ q. getD outs q 0) (automatonIn t ts) (t .start) (firstOf t outs ts set))
+    (witnessFigures (λ q. getD outs q 0) (monitorFrom t vs ts) (firstOf t outs ts set))
 
 -- what all fault sets of a table and a reading share: an output for each state, and the square of their distances
 pub record Posed (t : Shape) (outs square ts : List ℕ) : Type 0 where
@@ -46,3 +51,12 @@ pub record Ready (t : Shape) (set : ℕ) (outs square costs totals ts : List ℕ
   pub relaxed : Relaxed (automatonIn t ts) costs totals
   pub some : getD totals (t .start) 0 < never
   pub fits : getD totals (t .start) 0 ≤ room
+
+-- h is the series s as the search makes it
+pub record Makes (g : Automaton) (start : ℕ) (outs : List ℕ) (s : Series) (h : Harm) : Type 0 where
+  pub distance : h .distance ≡ length (sentTrace s)
+  pub before : h .before ≡ length (s .before)
+  pub fault : stepFor (h .fault) ≡ s .fault
+  pub ranged : Ranged (g .symbols) (h .fault)
+  pub sent : h .sent ≡ getD outs (run g start (sentTrace s)) 0
+  pub received : h .received ≡ getD outs (run g start (receivedTrace s)) 0

@@ -1,5 +1,7 @@
 // The fault question: immune, or vulnerable with the first witness; and the card of a table.
 use basics::Refusal;
+use counts::Counts;
+use faults::Fault;
 use faults::FaultSet;
 use faults::KINDS;
 use faults::Kind;
@@ -26,10 +28,10 @@ ghost use Rattle.pairs.specs.Square.{Squared, differing};
 ghost use Rattle.immunity.specs.Findings.{seriesFigures, witnessTrace, roomQuestions, faultQuestions};
 ghost use Rattle.immunity.specs.Findings.{tableFigures, faultAnswer, faultTrace, witnessValues, finding};
 ghost use Rattle.immunity.specs.Findings.{columnFigures, cardAsking, cardAnswer, found, carded};
-ghost use Rattle.immunity.specs.Search.{firstOf, answerOf, Posed, Ready, automatonIn};
+ghost use Rattle.immunity.specs.Search.{firstOf, answerOf, Posed, Ready, Makes, automatonIn};
 
 // A witness whose sent trace stands in the area: its length, the symbols before the fault, the fault's kind, the
-// replacement, and what the sent and the received trace read.
+// replacement, what the sent and the received trace read, and after how many symbols of each its verdict falls.
 pub struct Witness {
     pub distance: usize,
     pub before: usize,
@@ -37,6 +39,7 @@ pub struct Witness {
     pub replacement: usize,
     pub sent: usize,
     pub received: usize,
+    pub counts: Counts,
 }
 
 pub enum Finding {
@@ -66,8 +69,18 @@ pub struct LinkCard {
     pub columns: [Column; KINDS],
 }
 
-// The first witness from the start on. Its sent trace goes into the area.
-fn witness_of(
+// A harmful series as the search makes it: the length of its sent trace, the symbols before the fault, the fault step,
+// and what the sent and the received trace read.
+struct Harm {
+    distance: usize,
+    before: usize,
+    fault: Fault,
+    sent: usize,
+    received: usize,
+}
+
+// The first harmful series from the start on. Its sent trace goes into the area.
+fn harm_of(
     outputs: &[u8],
     square: &[u16; SQUARE_SIZE],
     costs: &[usize; STATE_LIMIT],
@@ -76,12 +89,11 @@ fn witness_of(
     t: Shape,
     set: FaultSet,
     area: &mut [u8],
-) -> Witness
+) -> Harm
     requires { ⌜ Ready t (set .bits) (now outputs) (now square) (now costs) (now totals) (now nexts)
         (length (now area)) ⌝ }
-    ensures figures { λ r. ⌜ ((s : Series) → firstOf t (now (outputs .entry)) (now (nexts .entry)) (set .bits) ≡ some s
-        → witnessValues r
-        ≡ seriesFigures (λ q. getD (now (outputs .entry)) q 0) (automatonIn t (now (nexts .entry))) (t .start) s) ⌝ }
+    ensures series { λ r. ⌜ ((s : Series) → firstOf t (now (outputs .entry)) (now (nexts .entry)) (set .bits) ≡ some s
+        → Makes (automatonIn t (now (nexts .entry))) (t .start) (now (outputs .entry)) s r) ⌝ }
     ensures area { λ _. ⌜ ((s : Series) → firstOf t (now (outputs .entry)) (now (nexts .entry)) (set .bits) ≡ some s
         → now (area .exit) ≡ sets (now (area .entry)) 0 (sentTrace s)) ⌝ }
 {
@@ -99,19 +111,54 @@ fn witness_of(
     let end = pairs::write_apart(square, nexts, n, k, p, q, area, at);
     let sent = end.sent;
     let received = end.received;
-    let kind = fault.kind;
-    Witness {
+    Harm {
         distance: totals[start],
         before: count,
-        kind,
-        replacement: fault.replacement,
+        fault,
         sent: outputs[sent] as usize,
         received: outputs[received] as usize,
     }
 }
 
+// The first witness from the start on, with the counts of its traces. Its sent trace goes into the area.
+fn witness_of(
+    marks: &[u8],
+    outputs: &[u8],
+    square: &[u16; SQUARE_SIZE],
+    costs: &[usize; STATE_LIMIT],
+    totals: &[usize; STATE_LIMIT],
+    nexts: &[u8],
+    t: Shape,
+    set: FaultSet,
+    area: &mut [u8],
+) -> Witness
+    requires { ⌜ TableIn t marks nexts
+        × Ready t (set .bits) (now outputs) (now square) (now costs) (now totals) (now nexts) (length (now area)) ⌝ }
+    ensures figures { λ r. ⌜ ((s : Series) → firstOf t (now (outputs .entry)) (now (nexts .entry)) (set .bits) ≡ some s
+        → witnessValues r
+        ≡ seriesFigures (λ q. getD (now (outputs .entry)) q 0) (monitorIn t (marks .entry) (nexts .entry)) s) ⌝ }
+    ensures area { λ _. ⌜ ((s : Series) → firstOf t (now (outputs .entry)) (now (nexts .entry)) (set .bits) ≡ some s
+        → now (area .exit) ≡ sets (now (area .entry)) 0 (sentTrace s)) ⌝ }
+{
+    let harm = harm_of(outputs, square, costs, totals, nexts, t, set, area);
+    let fault = harm.fault;
+    let kind = fault.kind;
+    let trace = basics::part(area, 0, harm.distance);
+    let counts = counts::counts_of(marks, nexts, t, trace, harm.before, fault);
+    Witness {
+        distance: harm.distance,
+        before: harm.before,
+        kind,
+        replacement: fault.replacement,
+        sent: harm.sent,
+        received: harm.received,
+        counts,
+    }
+}
+
 // The finding for one fault set, from what all sets of a table and a reading share.
 fn examine_set(
+    marks: &[u8],
     outputs: &[u8],
     square: &[u16; SQUARE_SIZE],
     nexts: &[u8],
@@ -119,9 +166,11 @@ fn examine_set(
     set: FaultSet,
     area: &mut [u8],
 ) -> Finding
-    requires { ⌜ Posed t (now outputs) (now square) (now nexts) ⌝ }
+    requires { ⌜ TableIn t marks nexts
+        × Posed t (now outputs) (now square) (now nexts) ⌝ }
     ensures figures { λ r. ⌜ finding r
-        ≡ answerOf t (now (outputs .entry)) (now (nexts .entry)) (set .bits) (length (now (area .entry))) ⌝ }
+        ≡ answerOf t (now (marks .entry)) (now (outputs .entry)) (now (nexts .entry)) (set .bits)
+        (length (now (area .entry))) ⌝ }
     ensures area { λ r. ⌜ now (area .exit)
         ≡ written (finding r) (witnessTrace (firstOf t (now (outputs .entry)) (now (nexts .entry)) (set .bits)))
         (now (area .entry)) ⌝ }
@@ -140,7 +189,7 @@ fn examine_set(
             place: 0,
         });
     }
-    Finding::Vulnerable(witness_of(outputs, square, &costs, &totals, nexts, t, set, area))
+    Finding::Vulnerable(witness_of(marks, outputs, square, &costs, &totals, nexts, t, set, area))
 }
 
 // The finding for a table under a reading.
@@ -164,7 +213,7 @@ fn examine_reading(
     readings::write_readings(marks, nexts, t, domain, &mut outputs);
     let read = &outputs[..n];
     let square = pairs::distances(nexts, n, t.symbols, read);
-    examine_set(read, &square, nexts, t, set, area)
+    examine_set(marks, read, &square, nexts, t, set, area)
 }
 
 // The finding for an opened table: questions 9 and 10, and the set that the number stands for.
@@ -252,7 +301,7 @@ fn column_of(
     ensures area { λ _. ⌜ length (now (area .exit)) ≡ horizon stateLimit ⌝ }
 {
     let set = FaultSet::empty().with(faults::kind_at(rank));
-    let finding = examine_set(marks, square, nexts, t, set, area);
+    let finding = examine_set(marks, marks, square, nexts, t, set, area);
     Column { finding }
 }
 

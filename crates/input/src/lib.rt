@@ -1,4 +1,4 @@
-// Standard input, which the programs for users read as a whole.
+// Standard input, which the programs for users read as a whole, and files that arguments name.
 use basics::Refusal;
 use output::Program;
 ghost use Prim.Native.Nat.{_≤_};
@@ -17,37 +17,77 @@ pub enum Input {
     Failed,
 }
 
+// What filling a space came to: the length of all that there was, more than the space holds, or a read that failed.
+pub enum Filled {
+    Whole { length: usize },
+    Longer,
+    Failed,
+}
+
 // One read into the space from a place on. Answers how many bytes came, 0 at the end, below 0 where it failed.
-fn read_on(space: &mut [u8], from: usize, size: usize) -> isize
+fn read_on(descriptor: i32, space: &mut [u8], from: usize, size: usize) -> isize
     requires { ⌜ (from ≤ size)
         × (size ≤ length (now space)) ⌝ }
 {
-    libc::read(libc::STDIN_FILENO, &mut space[from..size])
+    libc::read(descriptor, &mut space[from..size])
 }
 
-// The end of an input of so many bytes, or a read that failed.
-fn ended(program: Program, got: isize, length: usize) -> Input {
+// The end of what there was, so many bytes, or a read that failed.
+fn ended(got: isize, length: usize) -> Filled {
     if got < 0 {
-        output::failure(program, b"standard input");
-        return Input::Failed;
+        return Filled::Failed;
     }
-    Input::Whole { length }
+    Filled::Whole { length }
+}
+
+// Reads into the first bytes of a space, at most so many, one of which is too many: by it a longer input shows.
+fn fill(descriptor: i32, space: &mut [u8], most: usize) -> Filled {
+    let size = basics::least_of(most, space.len());
+    let mut done = 0;
+    while done < size {
+        let got = read_on(descriptor, space, done, size);
+        let more = basics::least_of(io::count(got, space), size - done);
+        if more == 0 {
+            return ended(got, done);
+        }
+        done += more;
+    }
+    Filled::Longer
 }
 
 // Reads the input into the first bytes of a space that is lent, which has SIZE bytes at least.
 pub fn read(program: Program, space: &mut [u8]) -> Input {
-    let size = basics::least_of(SIZE, space.len());
-    let mut done = 0;
-    while done < size {
-        let got = read_on(space, done, size);
-        let more = basics::least_of(io::count(got, space), size - done);
-        if more == 0 {
-            return ended(program, got, done);
+    match fill(libc::STDIN_FILENO, space, SIZE) {
+        Filled::Whole { length } => Input::Whole { length },
+        Filled::Longer => Input::Refused(Refusal {
+            number: 26,
+            place: 0,
+        }),
+        Filled::Failed => {
+            output::failure(program, b"standard input");
+            Input::Failed
         }
-        done += more;
     }
-    Input::Refused(Refusal {
-        number: 26,
-        place: 0,
-    })
+}
+
+// Reads an open file into a space, and closes it.
+fn read_opened(program: Program, name: &[u8], descriptor: i32, space: &mut [u8]) -> Filled {
+    let filled = fill(descriptor, space, space.len());
+    match filled {
+        Filled::Failed => output::failure(program, name),
+        _ => {}
+    }
+    libc::close(descriptor);
+    filled
+}
+
+// Reads the file of this name into a space that has a byte more than the file may have. Standard error has told a
+// failure.
+pub fn read_file(program: Program, name: &[u8], space: &mut [u8]) -> Filled {
+    let descriptor = os::open_read(name);
+    if descriptor < 0 {
+        output::failure(program, name);
+        return Filled::Failed;
+    }
+    read_opened(program, name, descriptor, space)
 }

@@ -22,7 +22,7 @@ use Rattle.immunity.specs.declared.Column.{Column}
 use Rattle.immunity.specs.declared.Finding.{Finding}
 use Rattle.immunity.specs.declared.Summary.{Summary}
 use Rattle.immunity.specs.declared.LinkCard.{LinkCard}
-use Rattle.immunity.specs.Findings.{witnessFigures, tableFigures, finding, found}
+use Rattle.immunity.specs.Findings.{FaultFigures, witnessFigures, tableFigures, finding, found}
 use Rattle.immunity.specs.Findings.{summaryFigures, columnFigures, CardAnswer, cardAsking, cardAnswer, summarised, carded}
 use Rattle.immunity.proofs.Columns.{card-asks}
 use Rattle.lines.specs.Text.{ascii, decimal}
@@ -30,12 +30,12 @@ use Rattle.lines.specs.Line.{distanceText, distanceTexts, refusalLine, r
 
 -- ---- the texts of columns by what their findings answer
 
-answerText : Answer → List ℕ
+answerText : Answer FaultFigures → List ℕ
 answerText (refused n place) = ascii "refused"
-answerText (answered []) = ascii "-"
-answerText (answered (x ∷ xs)) = decimal x
+answerText (answered none) = ascii "-"
+answerText (answered (some w)) = decimal (getD (w .numbers) 0 0)
 
-answerTexts : List Answer → List (List ℕ)
+answerTexts : List (Answer FaultFigures) → List (List ℕ)
 answerTexts [] = []
 answerTexts (a ∷ more) = answerText a ∷ answerTexts more
 
@@ -54,11 +54,11 @@ distance-text : (m : Monitor) (d set : ℕ) → answerText (answered (tableFigur
 unfolding answerText
 distance-text m d set = go (firstWitness m d set)
   where
-    go : (o : Option Series) → answerText (answered (witnessFigures (reading m d) (m .automaton) (m .start) o)) ≡ distanceText (extentOf o)
+    go : (o : Option Series) → answerText (answered (witnessFigures (reading m d) m o)) ≡ distanceText (extentOf o)
     go none = refl
     go (some s) = refl
 
-texts-append : (xs ys : List Answer) → answerTexts (xs ++ ys) ≡ answerTexts xs ++ answerTexts ys
+texts-append : (xs ys : List (Answer FaultFigures)) → answerTexts (xs ++ ys) ≡ answerTexts xs ++ answerTexts ys
 unfolding answerTexts
 texts-append [] ys = refl
 texts-append (x ∷ xs) ys = rw (texts-append xs ys)
@@ -80,7 +80,7 @@ module _ (limit : ℕ) (b : List ℕ) (card : LinkCard) (e : carded card ≡ car
   abbrev m : Monitor
   m = monitorOf b
 
-  abbrev summary-is : Answer → Type 0
+  abbrev summary-is : Answer (List ℕ) → Type 0
   summary-is a = a ≡ asks (tableQuestions limit b) (summaryFigures m)
 
   summary : summary-is (summarised (card .summary))
@@ -99,19 +99,19 @@ module _ (limit : ℕ) (b : List ℕ) (card : LinkCard) (e : carded card ≡ car
   unfolding ruleLine judgeAnswer
   rule-carded rule {n} {y} h =
       let passed : asks (tableQuestions limit b) (summaryFigures m) ≡ answered (n ∷ y ∷ []) = sym summary ∙ ap summarised h in
-      let accepts : (values : List ℕ)
-      → asks (tableQuestions limit b) values ≡ answered values = λ values. asks-other (tableQuestions limit b) (summaryFigures m) values passed in
+      let accepts : (A : Type 0) (values : A)
+      → asks (tableQuestions limit b) values ≡ answered values = λ A values. asks-other (tableQuestions limit b) (summaryFigures m) values passed in
       let texts : columnTexts (card .columns) ≡ distanceTexts m =
       column-texts (card .columns) ∙ ap answerTexts (columns ∙ ap (λ (c : CardAnswer). c .columns) (sym (card-asks (tableQuestions limit b) m accepts)))
       ∙ distance-texts m kinds in
       let values : summaryFigures m ≡ n ∷ y ∷ [] = asks-values (tableQuestions limit b) (summaryFigures m) passed in
       let states : m .automaton .states ≡ n = ap (λ (l : List ℕ). getD l 0 0) values in
       let monitorable : monitorability m ≡ y = ap (λ (l : List ℕ). getD l 1 0) values in
-      rw (texts, ← states, ← monitorable, accepts [])
+      rw (texts, ← states, ← monitorable, accepts (List ℕ) [])
 
   pub rule-refused : (rule : ℕ) {x : Refusal} → card .summary ≡ Summary.Refused x → refusalLine rule (x .number) (x .place) ≡ ruleLine limit rule b
   unfolding ruleLine judgeAnswer
-  rule-refused rule h = rw (asks-refuses (tableQuestions limit b) (summaryFigures m) [] (sym summary ∙ ap summarised h))
+  rule-refused rule h = rw (asks-refuses {B = List ℕ} (tableQuestions limit b) (summaryFigures m) [] (sym summary ∙ ap summarised h))
 
 -- the line of a rule, put at the front of a buffer
 module _ (limit rule : ℕ) (body : List ℕ) {before after : List ℕ} {to : ℕ} (p : Put (ruleLine limit rule body) before 0 after to) where

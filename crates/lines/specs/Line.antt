@@ -53,7 +53,7 @@ abbrev pub refusalLine : ℕ → ℕ → ℕ → List ℕ
 refusalLine rule code place = lineText (decimal rule) (ascii "refused" ∷ decimal code ∷ decimal place ∷ [])
 
 -- the line of a rule, by what judging its body answers
-abbrev pub judgedLine : ℕ → Answer → Monitor → List ℕ
+abbrev pub judgedLine : ℕ → Answer (List ℕ) → Monitor → List ℕ
 judgedLine rule (refused code place) m = refusalLine rule code place
 judgedLine rule (answered values) m = cardLine rule m
 
@@ -62,12 +62,12 @@ unfoldable pub ruleLine : ℕ → ℕ → List ℕ → List ℕ
 ruleLine limit rule body = judgedLine rule (judgeAnswer limit body) (monitorOf body)
 
 -- writing a line asks 13 and answers its length
-unfoldable pub lineAnswer : ℕ → ℕ → List ℕ → ℕ → Answer
+unfoldable pub lineAnswer : ℕ → ℕ → List ℕ → ℕ → Answer (List ℕ)
 lineAnswer limit rule body room =
     asks (question13 (length (ruleLine limit rule body)) room ∷ []) (length (ruleLine limit rule body) ∷ [])
 
 -- 13 and its place, or the length of the line
-abbrev pub lined : Line → Answer
+abbrev pub lined : Line → Answer (List ℕ)
 lined (Line.Written l) = answered (l ∷ [])
 lined (Line.Refused r) = refusal r
 

@@ -99,12 +99,12 @@ module _ (limit : ℕ) (b space : List ℕ) {r : Opened} (o : Opens limit b r sp
   pub opened-yes : {t : Shape} → r ≡ opened.Table t → Accepts limit b t space
   opened-yes e = subst (λ (z : Opened). Opens limit b z space) e o
 
-pub refused-asks : (limit : ℕ) (b : List ℕ) (more : List Question) (values : List ℕ) {x : Refusal} → judgeAnswer limit b ≡ refusal x
+pub refused-asks : {A : Type 0} (limit : ℕ) (b : List ℕ) (more : List Question) (values : A) {x : Refusal} → judgeAnswer limit b ≡ refusal x
     → asks (tableQuestions limit b ++ more) values ≡ refusal x
 unfolding judgeAnswer
 refused-asks limit b more values e = asks-refused (tableQuestions limit b) more values [] e
 
-pub accepted-asks : (limit : ℕ) (b : List ℕ) (more : List Question) (values : List ℕ) → judgeAnswer limit b ≡ answered []
+pub accepted-asks : {A : Type 0} (limit : ℕ) (b : List ℕ) (more : List Question) (values : A) → judgeAnswer limit b ≡ answered []
     → asks (tableQuestions limit b ++ more) values ≡ asks more values
 unfolding judgeAnswer
 accepted-asks limit b more values e = asks-passed (tableQuestions limit b) more values [] e
@@ -129,22 +129,22 @@ module _ {limit : ℕ} {b : List ℕ} {t : Shape} {space : List ℕ} (h : Accept
     monitor-handed = rw et (h .monitor)
 
     -- a call by its questions and its values
-    module _ (questions : Monitor → List Question) (figures : Monitor → List ℕ) where
+    module _ {A : Type 0} (questions : Monitor → List Question) (figures : Monitor → A) where
       pub opened-asks : asks (questions handed) (figures handed) ≡ asks (tableQuestions limit b ++ questions (monitorOf b)) (figures (monitorOf b))
       opened-asks =
           ap (λ (m : Monitor). asks (questions m) (figures m)) monitor-handed
           ∙ sym (accepted-asks limit b (questions (monitorOf b)) (figures (monitorOf b)) (h .accepted))
 
       -- and by the bytes that it writes
-      pub opened-writes : (bytes : Monitor → List ℕ) (area : List ℕ) {answer : Answer} {after : List ℕ}
+      pub opened-writes : (bytes : Monitor → List ℕ) (area : List ℕ) {answer : Answer A} {after : List ℕ}
           → answer ≡ asks (questions handed) (figures handed) → after ≡ written answer (bytes handed) area
           → (answer ≡ asks (tableQuestions limit b ++ questions (monitorOf b)) (figures (monitorOf b)))
           × (after ≡ written (asks (tableQuestions limit b ++ questions (monitorOf b)) (figures (monitorOf b))) (bytes (monitorOf b)) area)
       opened-writes bytes area {answer} ea eb =
           let same = ea ∙ opened-asks in
-          (same, eb ∙ ap (λ (m : Monitor). written answer (bytes m) area) monitor-handed ∙ ap (λ (a : Answer). written a (bytes (monitorOf b)) area) same)
+          (same, eb ∙ ap (λ (m : Monitor). written answer (bytes m) area) monitor-handed ∙ ap (λ (a : Answer A). written a (bytes (monitorOf b)) area) same)
 
 -- a refused body, likewise
-pub refused-writes : (limit : ℕ) (b : List ℕ) (more : List Question) (values bytes area : List ℕ) {x : Refusal} → judgeAnswer limit b ≡ refusal x
+pub refused-writes : {A : Type 0} (limit : ℕ) (b : List ℕ) (more : List Question) (values : A) (bytes area : List ℕ) {x : Refusal} → judgeAnswer limit b ≡ refusal x
     → (refusal x ≡ asks (tableQuestions limit b ++ more) values) × (area ≡ written (asks (tableQuestions limit b ++ more) values) bytes area)
 refused-writes limit b more values bytes area e = (let no = refused-asks limit b more values e in (sym no, untouched bytes area no))

@@ -10,7 +10,7 @@ use Rattle.theory.specs.Monitor.{symbolLimit}
 use Rattle.theory.proofs.Below.{and-left, and-right}
 use Rattle.theory.proofs.Answer.{asks-yes}
 use Rattle.monitor.specs.Format.{statesOf, symbolsOf, startOf}
-use Rattle.monitor.specs.Questions.{question1, question2, question3, question4, question5, headQuestions}
+use Rattle.monitor.specs.Questions.{question1, question2, question3, question4, question5, headQuestions, noValues}
 
 -- the sizes of a body and its start are as they must be
 pub record Head (limit : ℕ) (b : List ℕ) : Type 0 where
@@ -22,7 +22,7 @@ pub record Head (limit : ℕ) (b : List ℕ) : Type 0 where
   pub exact : length b ≡ 3 + statesOf b + statesOf b * symbolsOf b
   pub start-in : startOf b < statesOf b
 
-pub passed-head : (limit : ℕ) (b : List ℕ) → asks (headQuestions limit b) [] ≡ answered [] → Head limit b
+pub passed-head : (limit : ℕ) (b : List ℕ) → asks (headQuestions limit b) noValues ≡ answered noValues → Head limit b
 passed-head limit b p₁ =
     let q₁ = asks-yes (question1 b) (question2 limit b ∷ question3 b ∷ question4 b ∷ question5 b ∷ []) [] p₁ in
     let q₂ = asks-yes (question2 limit b) (question3 b ∷ question4 b ∷ question5 b ∷ []) [] (q₁ .1) in

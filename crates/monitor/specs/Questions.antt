@@ -99,11 +99,15 @@ rowQuestions b = question6 b ∷ question7 b ∷ question8 b ∷ []
 abbrev pub tableQuestions : ℕ → List ℕ → List Question
 tableQuestions limit b = headQuestions limit b ++ rowQuestions b
 
+-- the values of a call that answers none
+abbrev pub noValues : List ℕ
+noValues = []
+
 -- judging a table asks 1 to 8 and answers no values
-unfoldable pub judgeAnswer : ℕ → List ℕ → Answer
-judgeAnswer limit b = asks (tableQuestions limit b) []
+unfoldable pub judgeAnswer : ℕ → List ℕ → Answer (List ℕ)
+judgeAnswer limit b = asks (tableQuestions limit b) noValues
 
 -- 01's number and place of a judgement
-abbrev pub judgement : Judgement → Answer
-judgement Accepted = answered []
+abbrev pub judgement : Judgement → Answer (List ℕ)
+judgement Accepted = answered noValues
 judgement (Refused r) = refusal r

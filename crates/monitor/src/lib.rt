@@ -3,7 +3,6 @@ use basics::Refusal;
 use theory::STATE_LIMIT;
 use theory::SYMBOL_LIMIT;
 ghost use mathlib.Core.Path.{_≡_};
-ghost use mathlib.Core.List.{[]};
 ghost use Prim.Native.Nat.{_*_, _<_};
 ghost use lib.ListN.{length};
 ghost use Rattle.theory.specs.Below.{first};
@@ -12,7 +11,7 @@ ghost use Rattle.theory.specs.Answer.{Answer, asks};
 ghost use Rattle.monitor.specs.Format.{drawnMarks, nexts, Rows, graph};
 ghost use Rattle.monitor.specs.Opening.{Opens};
 ghost use Rattle.monitor.specs.Questions.{firstNotBelow, revokes, firstRevoking};
-ghost use Rattle.monitor.specs.Questions.{headQuestions, rowQuestions, judgement, judgeAnswer};
+ghost use Rattle.monitor.specs.Questions.{headQuestions, rowQuestions, noValues, judgement, judgeAnswer};
 
 pub enum Judgement {
     Accepted,
@@ -107,7 +106,7 @@ pub fn next_states(body: &[u8]) -> &[u8]
 
 // Questions 1 to 5.
 fn judge_head(body: &[u8]) -> Judgement
-    ensures { λ r. ⌜ judgement r ≡ asks (headQuestions stateLimit (now (body .entry))) [] ⌝ }
+    ensures { λ r. ⌜ judgement r ≡ asks (headQuestions stateLimit (now (body .entry))) noValues ⌝ }
 {
     let len = body.len();
     if len < 3 {
@@ -138,8 +137,8 @@ fn judge_head(body: &[u8]) -> Judgement
 
 // Questions 6 to 8, of a body that passed 1 to 5.
 fn judge_rows(body: &[u8]) -> Judgement
-    requires { ⌜ asks (headQuestions stateLimit (now body)) [] ≡ Answer.answered [] ⌝ }
-    ensures { λ r. ⌜ judgement r ≡ asks (rowQuestions (now (body .entry))) [] ⌝ }
+    requires { ⌜ asks (headQuestions stateLimit (now body)) noValues ≡ Answer.answered noValues ⌝ }
+    ensures { λ r. ⌜ judgement r ≡ asks (rowQuestions (now (body .entry))) noValues ⌝ }
 {
     let n = body[0] as usize;
     let k = body[1] as usize;

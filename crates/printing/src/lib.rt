@@ -8,6 +8,7 @@ use immunity::Finding;
 use immunity::Witness;
 use monitor::Judgement;
 use output::Output;
+use readings::Count;
 use readings::Stepped;
 use readings::Traced;
 
@@ -135,10 +136,24 @@ pub fn stepped(out: Output, answer: Stepped) -> Output {
     }
 }
 
+// After how many messages a verdict fell.
+fn count(out: Output, after: Count) -> Output {
+    match after {
+        Count::After(n) => out.number(n),
+        Count::Never => out.text(b"never"),
+    }
+}
+
 pub fn traced(out: Output, answer: Traced) -> Output {
     match answer {
         Traced::Refused(r) => refusal(out, r),
-        Traced::Reads { reading } => out.text(b"reading ").number(reading),
+        Traced::Reads {
+            reading,
+            count: after,
+        } => count(
+            out.text(b"reading ").number(reading).text(b" count "),
+            after,
+        ),
     }
 }
 
@@ -164,4 +179,15 @@ pub fn finding(out: Output, answer: Finding) -> Output {
         Finding::Immune => out.text(b"immune"),
         Finding::Vulnerable(w) => witness(out, w),
     }
+}
+
+// The counts of a witness, sent before received. Any other finding has none.
+pub fn counts(out: Output, answer: Finding) -> Output {
+    let Finding::Vulnerable(w) = answer else {
+        return out;
+    };
+    let both = w.counts;
+    let sent = both.sent;
+    let received = both.received;
+    count(count(out.text(b" counts "), sent).text(b" "), received)
 }

@@ -33,7 +33,8 @@ fn examine(out: Output, set: usize, domain: usize, room: usize, body: &[u8]) -> 
     let mut area = [255u8; 256];
     if room <= 256 {
         let lent = &mut area[0..room];
-        let answered = printing::finding(out, immunity::examine(body, set, domain, lent));
+        let answer = immunity::examine(body, set, domain, lent);
+        let answered = printing::counts(printing::finding(out, answer), answer);
         return printing::bytes(answered, lent);
     }
     out

@@ -4,20 +4,20 @@ use monitor::Opened;
 use monitor::Shape;
 use theory::STATE_LIMIT;
 ghost use mathlib.Core.Path.{_≡_};
-ghost use mathlib.Core.Bool.{_||_};
+ghost use mathlib.Core.Bool.{_||_, cond};
 ghost use mathlib.Core.List.{_++_};
 ghost use Prim.Native.Nat.{_≤_, _<_};
 ghost use lib.Dec.{eqb};
-ghost use lib.ListN.{length, drop};
+ghost use lib.ListN.{length, getD, drop};
 ghost use Rattle.theory.specs.Below.{values};
-ghost use Rattle.theory.specs.Automaton.{run};
 ghost use Rattle.theory.specs.Answer.{asks};
 ghost use Rattle.theory.specs.Monitor.{reading, stateLimit};
-ghost use Rattle.monitor.specs.Format.{Rows, graph};
+ghost use Rattle.theory.specs.Extent.{number, missing};
 ghost use Rattle.monitor.specs.Opening.{monitorIn, TableIn};
 ghost use Rattle.monitor.specs.Questions.{firstNotBelow};
 ghost use Rattle.readings.specs.Readings.{stepQuestions, stepFigures, stepAnswer, stepped};
-ghost use Rattle.readings.specs.Readings.{traceQuestions, traceFigures, traceAnswer, traced};
+ghost use Rattle.readings.specs.Readings.{traceQuestions, traceFigures, traceAnswer, counted, traced};
+ghost use Rattle.readings.specs.Following.{Followed};
 
 // Where a step leads, and what is read there.
 pub enum Stepped {
@@ -25,10 +25,22 @@ pub enum Stepped {
     Refused(Refusal),
 }
 
-// What is read after a trace.
+// After how many symbols of a trace the verdict fell.
+pub enum Count {
+    After(usize),
+    Never,
+}
+
+// What is read after a trace, and when its verdict fell.
 pub enum Traced {
-    Reads { reading: usize },
+    Reads { reading: usize, count: Count },
     Refused(Refusal),
+}
+
+// Where a trace was left: the state, and how many symbols were read.
+pub struct Progress {
+    pub state: usize,
+    pub read: usize,
 }
 
 // Whether this is a reading: 3 by marks, 6 by classes.
@@ -68,21 +80,34 @@ pub fn write_readings(marks: &[u8], nexts: &[u8], t: Shape, domain: usize, area:
     classes::write_all_classes(marks, nexts, t, area);
 }
 
-// The state that the symbols lead to from start.
-fn state_after(nexts: &[u8], n: usize, k: usize, start: usize, symbols: &[u8]) -> usize
-    requires { ⌜ Rows stateLimit n k (now nexts)
-        × (start < n)
-        × (firstNotBelow k (now symbols) ≡ length (now symbols)) ⌝ }
-    ensures state { λ r. ⌜ r ≡ run (graph n k (nexts .entry)) start (now (symbols .entry)) ⌝ }
-    ensures inside { λ r. ⌜ r < n ⌝ }
+// Reads the symbols from a state on, up to the first verdict: it is kept, and what follows reads the same.
+pub fn follow(marks: &[u8], nexts: &[u8], t: Shape, from: usize, symbols: &[u8]) -> Progress
+    requires { ⌜ TableIn t marks nexts
+        × (from < t .states)
+        × (firstNotBelow (t .symbols) (now symbols) ≡ length (now symbols)) ⌝ }
+    ensures { λ r. ⌜ Followed (monitorIn t (marks .entry) (nexts .entry)) from (now (symbols .entry)) r ⌝ }
 {
-    let mut q = start;
+    let mut q = from;
     let mut i = 0;
     while i < symbols.len() {
-        q = monitor::successor(nexts, n, k, q, symbols[i] as usize);
+        if marks[q] != 0 {
+            return Progress { state: q, read: i };
+        }
+        q = monitor::successor(nexts, t.states, t.symbols, q, symbols[i] as usize);
         i += 1;
     }
-    q
+    Progress { state: q, read: i }
+}
+
+// The count of a trace that was left at state q, after so many symbols.
+pub fn count_at(marks: &[u8], q: usize, read: usize) -> Count
+    requires { ⌜ q < length (now marks) ⌝ }
+    ensures { λ r. ⌜ counted r ≡ cond (eqb (getD (now (marks .entry)) q 0) 0) missing (number read) ⌝ }
+{
+    if marks[q] == 0 {
+        return Count::Never;
+    }
+    Count::After(read)
 }
 
 // A step of an opened table.
@@ -165,13 +190,16 @@ fn trace_table(marks: &[u8], nexts: &[u8], t: Shape, domain: usize, symbols: &[u
             place: wrong,
         });
     }
-    let q = state_after(nexts, t.states, t.symbols, t.start, symbols);
+    let end = follow(marks, nexts, t, t.start, symbols);
+    let q = end.state;
     Traced::Reads {
         reading: read(marks, nexts, t, domain, q),
+        count: count_at(marks, q, end.read),
     }
 }
 
-// The reading after a trace of any length, by marks (domain 3) or by classes (domain 6).
+// The reading after a trace of any length, by marks (domain 3) or by classes (domain 6), and after how many symbols its
+// verdict fell.
 pub fn trace(body: &[u8], domain: usize, symbols: &[u8]) -> Traced
     ensures { λ r. ⌜ traced r ≡ traceAnswer stateLimit (now (body .entry)) domain (now (symbols .entry)) ⌝ }
 {

@@ -7,6 +7,7 @@ pub mod Answer
 pub mod Settle
 pub mod Reach
 pub mod Exact
+pub mod Count
 pub mod Pairs
 pub mod Order
 pub mod Series

@@ -31,6 +31,16 @@ unfolding Trace
 trace-append g [] w s t = t
 trace-append g (a ∷ v) w s t = (s .0, trace-append g v w (s .1) t)
 
+pub trace-left : (g : Automaton) (v w : List ℕ) → Trace g (v ++ w) → Trace g v
+unfolding Trace
+trace-left g [] w t = tt
+trace-left g (a ∷ v) w t = (t .0, trace-left g v w (t .1))
+
+pub trace-right : (g : Automaton) (v w : List ℕ) → Trace g (v ++ w) → Trace g w
+unfolding Trace
+trace-right g [] w t = t
+trace-right g (a ∷ v) w t = trace-right g v w (t .1)
+
 -- ---- reaching a state that passes the test
 
 pub record Hits (g : Automaton) (f : ℕ → Bool) (q : ℕ) : Type 0 where

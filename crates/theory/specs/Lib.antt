@@ -4,6 +4,7 @@ pub mod Automaton
 pub mod Monitor
 pub mod Answer
 pub mod Extent
+pub mod Count
 pub mod Pairs
 pub mod Faults
 pub mod Series

@@ -20,7 +20,8 @@ fn example(name: &[u8], body: &[u8], set: usize, domain: usize, room: usize) {
     let mut area = [255u8; 4];
     if room <= 4 {
         let lent = &mut area[0..room];
-        let answered = printing::finding(asked, immunity::examine(body, set, domain, lent));
+        let answer = immunity::examine(body, set, domain, lent);
+        let answered = printing::counts(printing::finding(asked, answer), answer);
         printing::bytes(answered.text(b", area"), lent).text(b"\n");
     }
 }

@@ -29,7 +29,7 @@ unfolding cardAnswer judgeAnswer
 returns c =
     let b = c .before .before .before .before .before .before .before .before .args .body .now in
     let e = opened-no stateLimit b _ (c .before .before .before .before .before .«open» .ensures) (c .before .before .r .given .1) in
-    c .refused-card .ensures ∙ card-refuses (tableQuestions stateLimit b) (monitorOf b) _ (λ values. asks-refuses (tableQuestions stateLimit b) [] values e)
+    c .refused-card .ensures ∙ card-refuses (tableQuestions stateLimit b) (monitorOf b) _ (λ A values. asks-refuses (tableQuestions stateLimit b) [] values e)
 
 returns-2 : tie.Need-returns-2
 unfolding cardAnswer judgeAnswer
@@ -39,7 +39,7 @@ returns-2 c =
     (c .before .before .before .before .t .given .1) in
     let e = h .accepted in
     c .card-of .ensures ∙ ap (cardAsking []) (monitor-handed h (c .before .next-states .ensures))
-    ∙ card-asks (tableQuestions stateLimit b) (monitorOf b) (λ values. asks-other (tableQuestions stateLimit b) [] values e)
+    ∙ card-asks (tableQuestions stateLimit b) (monitorOf b) (λ A values. asks-other (tableQuestions stateLimit b) [] values e)
 
 pub card-spec : {M : Type 1} → statement M
 card-spec =

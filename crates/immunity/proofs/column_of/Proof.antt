@@ -10,7 +10,7 @@ use Rattle.immunity.proofs.column_of.Tie as tie
 examine-set-requires : tie.Need-examine-set-requires
 examine-set-requires c κs =
     let p = c .before .before .before .before .before .before .before .pre in
-    record { rows = p .0 .rows; outputs = p .0 .marks-length; start-in = p .0 .well-formed .start-in; squared = p .1 }
+    (p .0, record { rows = p .0 .rows; outputs = p .0 .marks-length; start-in = p .0 .well-formed .start-in; squared = p .1 })
 
 returns : tie.Need-returns
 returns c =

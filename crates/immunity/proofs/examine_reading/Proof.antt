@@ -18,13 +18,15 @@ distances-requires c κs =
 
 examine-set-requires : tie.Need-examine-set-requires
 examine-set-requires c κs =
-    let p = c .before .before .before .before .before .before .before .before .before .before .pre in
-    record {
-      rows = p .rows;
-      outputs = sym (filled-count _ _ _ (c .before .before .before .before .before .write-readings .ensures));
-      start-in = p .well-formed .start-in;
-      squared = c .before .before .distances .ensures;
-    }
+    let p = c .before .before .before .before .before .before .before .before .before .before .pre in (
+      p,
+      record {
+        rows = p .rows;
+        outputs = sym (filled-count _ _ _ (c .before .before .before .before .before .write-readings .ensures));
+        start-in = p .well-formed .start-in;
+        squared = c .before .before .distances .ensures;
+      },
+    )
 
 returns : tie.Need-returns
 returns c =

@@ -8,13 +8,13 @@ use borrow.Author.Needs.{needs}
 use borrow.Author.Tests.{le-leb, lt-leb, le-ltb, lt-ltb, eq-eqb, ne-eqb}
 use Rattle.theory.specs.Answer.{Question, asks}
 use Rattle.theory.specs.Monitor.{stateLimit, symbolLimit}
-use Rattle.monitor.specs.Questions.{question2, question3, question4, question5, headQuestions}
+use Rattle.monitor.specs.Questions.{question2, question3, question4, question5, headQuestions, noValues}
 use Rattle.monitor.proofs.judge_head.Statement.{statement}
 use Rattle.monitor.proofs.judge_head.Tie as tie
 
 -- the first questions are answered yes, these are left
 abbrev Left : List ℕ → List Question → Type 0
-Left b questions = asks (headQuestions stateLimit b) [] ≡ asks questions []
+Left b questions = asks (headQuestions stateLimit b) noValues ≡ asks questions noValues
 
 one : (c : tie.After-shared-slice-known2) → (let b = c .before .before .before .args .body .now in
     Left b (question2 stateLimit b ∷ question3 b ∷ question4 b ∷ question5 b ∷ []))

@@ -9,7 +9,7 @@ use borrow.Author.Needs.{needs}
 use borrow.Author.Tests.{eqb-true}
 use Rattle.theory.specs.Answer.{Question, asks}
 use Rattle.theory.specs.Monitor.{stateLimit}
-use Rattle.monitor.specs.Questions.{notBelow, question7, question8, rowQuestions}
+use Rattle.monitor.specs.Questions.{notBelow, question7, question8, rowQuestions, noValues}
 use Rattle.monitor.proofs.Head.{Head, passed-head}
 use Rattle.monitor.proofs.Body.{marks-length, nexts-length, less-apart, all-passed, lent-passed, rows-of}
 use Rattle.monitor.proofs.judge_rows.Statement.{statement}
@@ -20,7 +20,7 @@ head s = passed-head stateLimit (s .args .body .now) (s .pre)
 
 -- the first questions are answered yes, these are left
 abbrev Left : List ℕ → List Question → Type 0
-Left b questions = asks (rowQuestions b) [] ≡ asks questions []
+Left b questions = asks (rowQuestions b) noValues ≡ asks questions noValues
 
 six : (c : tie.After-shared-slice-known4)
     → (let b = c .before .before .before .before .before .before .before .before .args .body .now in Left b (question7 b ∷ question8 b ∷ []))
