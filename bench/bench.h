@@ -1,5 +1,6 @@
 // What the two baselines share: a table, the answers, and the functions that each of them has in its own way.
 #include <stdbool.h>
+#include <stddef.h>
 #include <stdint.h>
 
 enum { STATES = 64, SYMBOLS = 16, LOSS = 1, CORRUPTION = 2, REPEAT = 4, SWAP = 8 };
@@ -10,10 +11,36 @@ struct table {
     const uint8_t *marks, *next;
 };
 
-// The figures of a witness; its sent trace goes into the area.
+// The figures of a witness; its sent trace goes into the area. A count below 0 is never.
 struct witness {
-    int distance, before, kind, replacement, sent, received;
+    int distance, before, kind, replacement, sent, received, sent_count, received_count;
 };
+
+// Reads messages from a state on, up to the first verdict. Returns the state, and how many were read.
+static inline int follow(const struct table *t, int state, const uint8_t *messages, size_t count, size_t *read)
+{
+    const uint8_t *marks = t->marks, *next = t->next;
+    size_t k = t->k, q = state, i = 0;
+    for (; i < count && marks[q] == 0; i++)
+        q = next[q * k + messages[i]];
+    *read = i;
+    return q;
+}
+
+// After how many messages the verdict falls in the sent trace of a witness, and in what is received in its place.
+static inline void count_witness(const struct table *t, struct witness *w, const uint8_t *sent)
+{
+    const uint8_t *struck = sent + w->before;
+    int covered = w->kind == SWAP ? 2 : 1, delivered = w->kind == LOSS ? 0 : w->kind == CORRUPTION ? 1 : 2;
+    uint8_t put[2] = {w->kind == CORRUPTION ? w->replacement : struck[covered - 1], struck[0]};
+    size_t one, two, three;
+    int state = follow(t, t->start, sent, w->distance, &one);
+    w->sent_count = t->marks[state] ? (int)one : -1;
+    state = follow(t, t->start, sent, w->before, &one);
+    state = follow(t, state, put, delivered, &two);
+    state = follow(t, state, struck + covered, w->distance - w->before - covered, &three);
+    w->received_count = t->marks[state] ? (int)(one + two + three) : -1;
+}
 
 // The monitorability (0 pos, 1 neg, 2 both, 3 none), and the distances under loss, corruption, repeat and swap by marks, 0 where missing.
 struct card {

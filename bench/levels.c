@@ -328,6 +328,7 @@ static struct witness witness_of(const struct search *m, int set, int total, uin
     write_apart(m, &x, &y, total - at, area + at);
     w.sent = m->outputs[x];
     w.received = m->outputs[y];
+    count_witness(m->t, &w, area);
     return w;
 }
 

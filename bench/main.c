@@ -1,9 +1,11 @@
-// The programs `listing` and `probe` around a baseline: the same input, the same text. The first argument says which.
+// The programs `listing` and `probe` around a baseline, and `ask trace` for reading 3: the same input, the same text. The
+// first argument says which.
 #include "bench.h"
 #include <stdio.h>
+#include <stdlib.h>
 #include <string.h>
 
-enum { INPUT = 65536 };
+enum { INPUT = 65536, MESSAGES = 262144 };
 
 static int u16(const uint8_t *b) { return b[0] | b[1] << 8; }
 
@@ -100,6 +102,15 @@ static void refusal(int no, int place)
     number(" ", place);
 }
 
+static void count(const char *words, long after)
+{
+    text(words);
+    if (after < 0)
+        text("never");
+    else
+        number("", after);
+}
+
 // ---- the answers
 
 static void print_card(const uint8_t *body, int len)
@@ -148,6 +159,8 @@ static void print_finding(int set, int reading, int room, const uint8_t *body, i
         number(" replacement ", w.replacement);
         number(" readings ", w.sent);
         number(" ", w.received);
+        count(" counts ", w.sent_count);
+        count(" ", w.received_count);
     }
     for (int i = 0; i < room; i++)
         number(" ", area[i]);
@@ -212,6 +225,31 @@ static void listing(const uint8_t *file, int len)
     }
 }
 
+// A trace by marks, its messages from a file.
+static void trace(const uint8_t *body, int len, int reading, const char *path)
+{
+    static uint8_t messages[MESSAGES + 1];
+    FILE *file = fopen(path, "rb");
+    if (!file)
+        return;
+    size_t size = fread(messages, 1, sizeof messages, file), read;
+    fclose(file);
+    struct table t;
+    int place, no = judge(body, len, &place, &t);
+    if (no == 0 && reading != 3)
+        no = 10, place = 0;
+    if (no == 0 && (place = first_not_below(messages, size, t.k)) < (int)size)
+        no = 12;
+    if (no)
+        refusal(no, place);
+    else {
+        int state = follow(&t, t.start, messages, size, &read);
+        number("reading ", t.marks[state]);
+        count(" count ", t.marks[state] ? (long)read : -1);
+    }
+    end_line();
+}
+
 int main(int argc, char **argv)
 {
     static uint8_t input[INPUT + 1];
@@ -220,6 +258,8 @@ int main(int argc, char **argv)
         listing(input, len);
     else if (argc == 2 && strcmp(argv[1], "probe") == 0)
         probe(input, len < INPUT ? len : INPUT);
+    else if (argc == 4 && strcmp(argv[1], "trace") == 0)
+        trace(input, len, atoi(argv[2]), argv[3]);
     else
         return 2;
     flush();

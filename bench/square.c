@@ -192,6 +192,7 @@ static struct witness witness_of(const struct table *t, const uint8_t *outputs, 
     }
     w.sent = outputs[x];
     w.received = outputs[y];
+    count_witness(t, &w, area);
     return w;
 }
 

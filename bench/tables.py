@@ -3,6 +3,7 @@ import itertools
 import random
 
 LIMIT = 65536
+TRACE = 250000
 QUESTIONS = list(itertools.product((3, 6), (1, 2, 4, 8, 15)))
 
 
@@ -58,6 +59,18 @@ def growth():
         yield kind, n, k, [make(r, n, k) for _ in range(10)]
 
 
+def traces():
+    """Tables with traces of a million messages by which their verdict falls at the last one or never, cut to files that `ask` takes:
+    (name, table, traces)."""
+    r = random.Random(3)
+    for name, n, k in (("64 states, 16 messages", 64, 16), ("5 states, 3 messages", 5, 3)):
+        rows = [[*(r.randrange(n - 1) for _ in range(k - 1)), n - 1] for _ in range(n - 1)] + [[n - 1] * k]
+        messages = [bytes(r.choices(range(k - 1), k=TRACE - 1)) for _ in range(4)]
+        table = body(k, 0, [0] * (n - 1) + [1], rows)
+        yield f"{name}, never", table, [m + b"\0" for m in messages]
+        yield f"{name}, true at the last", table, [m + bytes([k - 1]) for m in messages]
+
+
 def collection(bodies):
     at, entries = 2 + 8 * len(bodies), b""
     for rule, b in enumerate(bodies):
@@ -102,8 +115,8 @@ def refused_tables(data, _):
 
 
 def refused_questions(data, answers):
-    """As many questions with empty bodies, whose refusals `probe` prints by as many writes as these answers. A refusal takes four, a witness twelve, `immune` one,
-    a byte of the area two: so a witness is made up for by four bytes more, and `immune` by one and by two less in turn."""
+    """As many questions with empty bodies, whose refusals `probe` prints by as many writes as these answers. A refusal takes four, a witness 16, `immune` one,
+    a byte of the area two: so a witness is made up for by six bytes more, and `immune` by one and by two less in turn."""
     frames, at, immune = [], 0, 0
     for answer in answers.splitlines():
         room = data[at + 5]
@@ -111,7 +124,7 @@ def refused_questions(data, answers):
             immune += 1
             room -= 1 + immune % 2
         else:
-            room += 4
+            room += 6
         frames.append(frame(4, (15, 3, room), b""))
         at += 2 + int.from_bytes(data[at : at + 2], "little")
     return b"".join(frames)

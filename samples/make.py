@@ -1,7 +1,8 @@
 #!/usr/bin/env python3
-"""Writes the sample collection: rules of a playout system, each here because it shows something.
+"""Writes the sample collection: rules of a playout system, each here because it shows something; and a sample trace.
 
-    python3 samples/make.py            writes samples/sample.collection, and the same bytes as the input of the program `card`
+    python3 samples/make.py            writes samples/sample.collection, the same bytes as the input of the program `card`, and
+                                       samples/hour.trace
     python3 samples/make.py --check    says whether these files are what this script writes
 
 A rule has its number, its messages, and its states in order, the start first. A state has its mark and, for each message in order,
@@ -11,7 +12,8 @@ import pathlib
 import sys
 
 ROOT = pathlib.Path(__file__).resolve().parent.parent
-FILES = [ROOT / "samples/sample.collection", ROOT / "crates/card/stdin"]
+COLLECTIONS = [ROOT / "samples/sample.collection", ROOT / "crates/card/stdin"]
+TRACE = ROOT / "samples/hour.trace"
 NOT_YET, TRUE, FALSE = 0, 1, 2
 
 
@@ -145,18 +147,23 @@ def collection(rules):
     return contents + bodies
 
 
+def hour():
+    """The messages of an hour, one a second, for rule 20: a 1 every seventh second, and two in a row only as messages 2417 and 2418."""
+    return bytes(1 if i % 7 == 0 or i in (2417, 2418) else 0 for i in range(1, 3601))
+
+
 def main():
-    made = collection(RULES)
+    made = {**dict.fromkeys(COLLECTIONS, collection(RULES)), TRACE: hour()}
     if sys.argv[1:] == ["--check"]:
-        stale = [str(file.relative_to(ROOT)) for file in FILES if not file.exists() or file.read_bytes() != made]
+        stale = [str(file.relative_to(ROOT)) for file, data in made.items() if not file.exists() or file.read_bytes() != data]
         if stale:
             sys.exit("not what samples/make.py writes: " + ", ".join(stale))
-        print(f"sample collection: {len(RULES)} rules, {len(made)} bytes, as written")
+        print(f"samples: {len(RULES)} rules, {len(collection(RULES))} bytes, and a trace of {len(hour())} messages, as written")
     elif sys.argv[1:]:
         sys.exit("usage: python3 samples/make.py [--check]")
     else:
-        for file in FILES:
-            file.write_bytes(made)
+        for file, data in made.items():
+            file.write_bytes(data)
 
 
 if __name__ == "__main__":

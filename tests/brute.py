@@ -9,7 +9,7 @@ import functools
 import itertools
 import random
 
-from model import SAMPLES, compare, judge, listed, monitorability, reading, refusal, small_tables
+from model import SAMPLES, compare, count, judge, listed, monitorability, reading, refusal, small_tables
 
 LOSS, CORRUPTION, REPEAT, SWAP = KINDS = 1, 2, 4, 8
 READINGS = 3, 6
@@ -97,17 +97,18 @@ def witnesses(b):
 # ---- the answers
 
 
-def finding(w, room):
+def finding(b, w, room):
     area = [255] * room
     if w is None:
         return "immune" + listed(area)
     if room < w.distance:
         return refusal((13, 0)) + listed(area)
-    area[: w.distance] = itertools.chain(*map(sent_by, w.steps))
+    sent, received = ([a for step in w.steps for a in side(step)] for side in (sent_by, received_by))
+    area[: w.distance] = sent
     before = next(i for i, step in enumerate(w.steps) if step[0] == 0)
     _, kind, _, replacement = w.steps[before]
     figures = f"distance {w.distance} before {before} kind {kind} replacement {replacement} readings {w.sent_reading} {w.received_reading}"
-    return f"vulnerable {figures}" + listed(area)
+    return f"vulnerable {figures} counts {count(b, sent)} {count(b, received)}" + listed(area)
 
 
 def card(b, singles):
@@ -119,7 +120,7 @@ def questions(b, found):
     for (d, faults), w in found.items():
         room = w.distance if w else 1
         for length in {room + 3, room, room - 1, 0}:
-            yield [4, faults, d, length] + b, finding(w, length)
+            yield [4, faults, d, length] + b, finding(b, w, length)
     yield [5, 0, 0, 0] + b, card(b, [found[3, kind] for kind in KINDS])
 
 

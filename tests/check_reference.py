@@ -57,7 +57,8 @@ def edges():
     check(fault(E, SWAP, 3, 3).distance, 3, "E, swap, area 3")
     check(answer(fault, E, SWAP, 3, 2), (13, 0), "E, swap, area 2")
     check([fault(body, 0, r, 0) for body in (A, B, C, D, E, G, H) for r in (3, 6)], [None] * 14, "the empty set")
-    check((trace(E, 3, []), trace(E, 6, []), trace(E, 3, [1, 1]), trace(E, 6, [1, 1])), (0, 2, 1, 0), "traces of E")
+    traces = [trace(E, reading, messages).reading for messages in ([], [1, 1]) for reading in (3, 6)]
+    check(traces, [0, 2, 1, 0], "traces of E")
     check(answer(reference.judge_collection, b"\0\0"), 0, "0 0")
     # Orders of questions, areas, full-width numbers.
     check(fault(D, 15, 3, 0), None, "immune needs no room")
@@ -90,6 +91,19 @@ def examples():
         check(answer(judge, bytes(body)), wanted, body)
 
 
+def counts():
+    """When the verdict falls: of traces, by both readings; and of the sent and the received trace of a witness."""
+    for body, messages, wanted in ((E, [1, 1], 2), (E, [1, 1, 0], 2), (E, [1, 0, 1], None), (E, [], None), (A, [0, 0, 1, 0], 3),
+                                   (H, [], None), (H, [0], 1), (UGLY_UNREACHABLE, [], 0), (UGLY_UNREACHABLE, [0, 0], 0)):
+        for reading in (3, 6):
+            check(trace(body, reading, messages).count, wanted, (body.hex(), messages))
+    for body, faults, reading, wanted in ((E, LOSS, 3, (2, None)), (E, CORRUPTION, 3, (None, 2)), (E, REPEAT, 3, (None, 2)),
+                                          (E, SWAP, 3, (3, None)), (E, SWAP, 6, (3, None)), (C, SWAP, 3, (1, 1)),
+                                          (G, CORRUPTION, 6, (None, None))):
+        w = fault(body, faults, reading, 99)
+        check((w.sent_count, w.received_count), wanted, (body.hex(), faults, reading))
+
+
 def collections():
     first = bytes.fromhex("0300 1A00000009000100 230000000C000200 2F00000009000300")
     text = reference.HEADER + "1 2 pos 1 1 - -\n2 3 pos 2 2 1 3\n3 refused 6 4\n"
@@ -116,11 +130,18 @@ def collections():
 
 def enumerated(table, faults, values):
     """The first witness among all sent traces of up to 2 n messages and all faults in them, from the definitions."""
-    def run(messages):
+    def end(messages):
         state = table.start
         for m in messages:
             state = table.rows[state][m]
-        return values[state]
+        return state
+
+    def run(messages):
+        return values[end(messages)]
+
+    def fell(messages):
+        marked = [i for i in range(len(messages) + 1) if table.marks[end(messages[:i])]]
+        return min(marked, default=None)
 
     for length in range(2 * table.n + 1):
         found = []
@@ -134,7 +155,7 @@ def enumerated(table, faults, values):
                     received = sent[:i] + put + rest
                     if faults & kind and run(sent) != run(received):
                         series = [(1, m) for m in sent[:i]] + [(0, kind, covered, replacement)] + [(1, m) for m in rest]
-                        witness = (length, i, kind, replacement, run(sent), run(received), list(sent))
+                        witness = (length, i, kind, replacement, run(sent), run(received), list(sent), fell(sent), fell(received))
                         found.append((series, witness))
         if found:
             return min(found)[1]
@@ -170,6 +191,7 @@ if __name__ == "__main__":
     starred_facts()
     edges()
     examples()
+    counts()
     collections()
     enumeration()
     print(f"check_reference: {checks:,} checks, no difference")

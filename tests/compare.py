@@ -3,7 +3,7 @@
 import itertools
 import random
 
-from model import SAMPLES, compare, judge, listed, monitorability, reach, reading, refusal, small_tables, state_class, successors
+from model import SAMPLES, compare, count, judge, listed, monitorability, reach, reading, refusal, small_tables, state_class, successors
 
 # ---- the model's answers
 
@@ -39,7 +39,7 @@ def trace(b, d, w):
     q = b[2]
     for a in w:
         q = successors(b, q)[a]
-    return f"reading {reading(b, d, q)}"
+    return f"reading {reading(b, d, q)} count {count(b, w)}"
 
 
 def fault_refusal(b, faults, d):
@@ -144,5 +144,18 @@ def random_questions():
             yield ask_trace(b, d, [r.randrange(k) for _ in range(r.randrange(200))])
 
 
-total = compare(itertools.chain(small_questions(), damaged_questions(), refused_questions(), random_questions()))
+def fallen_questions():
+    """Traces whose verdict falls at the start, early, at the last message, one message later, and never; both readings."""
+    r = random.Random(21)
+    tables = SAMPLES + [random_table(r) for _ in range(300)] + [b for b in small_tables() if b[3 + b[2]]]
+    for b in tables:
+        k = b[1]
+        w = [r.randrange(k) for _ in range(200)]
+        fell = count(b, w)
+        lengths = {0, 1, 200} if fell == "never" else {0, max(int(fell) - 1, 0), int(fell), int(fell) + 1, 200}
+        for d, length in itertools.product((3, 6), lengths):
+            yield ask_trace(b, d, w[:length])
+
+
+total = compare(itertools.chain(small_questions(), damaged_questions(), refused_questions(), random_questions(), fallen_questions()))
 print(f"compare.py: {total} answers compared with the model, all equal")

@@ -14,7 +14,7 @@ import tempfile
 import termios
 import tty
 
-from inputs import ROOM
+from inputs import ROOM, stored
 from tables import E, collection, in_a_row, late_repeat, table
 
 PROGRAMS = sys.argv[1] if len(sys.argv) > 1 else os.path.join("target", "bin")
@@ -25,6 +25,7 @@ LARGE = collection([(1, table(*late_repeat(64, 16))), (2, table(*in_a_row(64, 16
 # A call of each program, and of `ask` one that reads no input and one that reads a trace.
 CALLS = [(["listing"], SAMPLE), (["card"], SAMPLE), (["card", "20", "21"], SAMPLE), (["ask", "judge"], E),
          (["ask", "rule", "20", "fault", "8", "3", "3"], SAMPLE), (["ask", "trace", "3", "1", "1"], E),
+         (["ask", "trace", "3", stored("hour", [0] * 262142 + [1, 1])], E),
          (["ask", "why", "8"], b""), (["listing", "--help"], b""), (["card", "--help"], b""), (["ask", "--help"], b"")]
 
 # The greatest stack, in KiB, that a call may need: for `ask trace` the room for 262,144 messages comes on top.
@@ -104,10 +105,27 @@ def unreadable_input():
             check("no standard input", words, (out, err), (b"", told(words, "input", "Bad file descriptor")))
 
 
+def unreadable_file():
+    """A trace's file that is not there, that is a folder, that the user may not read or that fails, and one that is too
+    long. Nothing is answered, and nothing is read of standard input."""
+    locked = stored("locked", [1, 1])
+    os.chmod(locked[1:], 0)
+    failing = [("@tests/none", "tests/none: No such file or directory"), ("@tests", "tests: Is a directory"),
+               ("@/proc/self/mem", "/proc/self/mem: Input/output error"),
+               (stored("longer", [0] * 262145), "more than 262144 messages")]
+    if os.geteuid() != 0:
+        failing.append((locked, f"{locked[1:]}: Permission denied"))
+    for word, reason in failing:
+        for words, data in ((["ask", "trace", "3", word], E), (["ask", "rule", "20", "trace", "6", word], SAMPLE)):
+            _, out, err = run(words, data)
+            check("a file that cannot be read", words, (out, err), (b"", f"ask: {reason}\n"))
+
+
 def small_stack():
     """The same answers with a small stack as with any. The environment, which it holds too, is empty."""
     calls = CALLS + [(["listing"], LARGE), (["card"], LARGE), (["card", "x"], SAMPLE), (["ask"], E),
                      (["ask", "rule", "1", "fault", "4", "6", str(ROOM)], LARGE), (["ask", "collection"], LARGE),
+                     (["ask", "rule", "512", "trace", "6", stored("longest", [0] * 262144)], LARGE),
                      (["ask", "classes", "9" * 9999], E), (["ask", "rule", "512", "trace", "3"] + ["1"] * 999, LARGE)]
     for words, data in calls:
         kib = TRACE_STACK if "trace" in words else STACK
@@ -146,6 +164,7 @@ closed_pipe(True)
 closed_pipe(False)
 closed_output()
 unreadable_input()
+unreadable_file()
 terminal()
 small_stack()
-print(f"failures: no room, closed pipes, unreadable input, a terminal, and stacks of {STACK} and {TRACE_STACK} KiB are as said")
+print(f"failures: no room, closed pipes, unreadable input and files, a terminal, and stacks of {STACK} and {TRACE_STACK} KiB are as said")

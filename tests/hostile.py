@@ -25,6 +25,9 @@ def number(word):
     return int((word.lstrip("0") or "0")[:21])
 
 
+# The greatest number of messages in a trace.
+MESSAGE_LIMIT = 262144
+
 # How many numbers follow the word of a form. A trace has one at least.
 COUNTS = {"judge": 0, "classes": 1, "step": 3, "fault": 3}
 
@@ -33,16 +36,50 @@ def are_numbers(words):
     return all(re.fullmatch("[0-9]+", word) for word in words)
 
 
+def named_file(words):
+    """The file that a trace names in place of messages, None if it does not."""
+    return words[2][1:] if words[:1] == ["trace"] and len(words) == 3 and words[2].startswith("@") else None
+
+
 def is_form(words):
     """Whether the words are a question that can be asked of a body."""
+    if named_file(words) is not None:
+        words = words[:2]
     command, numbers = (words or [""])[0], words[1:]
     right_count = len(numbers) >= 1 if command == "trace" else COUNTS.get(command) == len(numbers)
     return right_count and are_numbers(numbers)
 
 
+class Unreadable(Exception):
+    """A file that no trace is read from: what standard error must say of it."""
+
+
+def messages_of(words):
+    """The messages of a trace."""
+    name = named_file(words)
+    if name is None:
+        return [number(word) for word in words[2:]]
+    try:
+        with open(name, "rb") as file:
+            messages = file.read()
+    except OSError as error:
+        raise Unreadable(f"ask: {name}: {os.strerror(error.errno)}\n")
+    if len(messages) > MESSAGE_LIMIT:
+        raise Unreadable(f"ask: more than {MESSAGE_LIMIT} messages\n")
+    return messages
+
+
+def counted(count):
+    return "never" if count is None else str(count)
+
+
 def form_answer(words, body):
     """The answer to a question of a body, without the line's end."""
-    command, numbers = words[0], [number(word) for word in words[1:]]
+    command = words[0]
+    if command == "trace":
+        answer = reference.trace(body, number(words[1]), messages_of(words))
+        return f"reading {answer.reading} count {counted(answer.count)}"
+    numbers = [number(word) for word in words[1:]]
     if command == "judge":
         reference.judge(body)
         return "accepted"
@@ -52,13 +89,12 @@ def form_answer(words, body):
         return f"monitorability {MONITORABILITY[answer.monitorability]} reached {answer.reached} classes {listed}"
     if command == "step":
         return "state {} reading {}".format(*reference.step(body, *numbers))
-    if command == "trace":
-        return f"reading {reference.trace(body, numbers[0], numbers[1:])}"
     w = reference.fault(body, *numbers)
     if w is None:
         return "immune"
     return (f"vulnerable distance {w.distance} before {w.before} kind {w.kind} replacement {w.replacement} "
-            f"readings {w.sent_reading} {w.received_reading} sent {' '.join(map(str, w.sent))}")
+            f"readings {w.sent_reading} {w.received_reading} sent {' '.join(map(str, w.sent))} "
+            f"counts {counted(w.sent_count)} {counted(w.received_count)}")
 
 
 def ask_answer(words, data):
@@ -78,16 +114,19 @@ def is_question(words):
 
 
 def expected(program, words, data):
-    """The program's standard output, or None where it must show its usage instead."""
+    """What the program must write to standard output and to standard error. The usage is told by its beginning."""
     if program == "listing":
-        return reference.listing(data)
+        return reference.listing(data), ""
     if not is_question(words):
-        return None
+        return "", "usage: ask "
     try:
+        messages_of(words[2:] if words[0] == "rule" else words) if "trace" in words else None
         reference.question(len(data) <= INPUT_LIMIT, 26, 0)
-        return ask_answer(words, data) + "\n"
+        return ask_answer(words, data) + "\n", ""
+    except Unreadable as error:
+        return "", str(error)
     except Refused as no:
-        return f"refused {no.number} {no.place}\n"
+        return f"refused {no.number} {no.place}\n", ""
 
 
 # ---- the comparison --------------------------------------------------------------------------------------
@@ -105,18 +144,17 @@ def run(program, words, data):
 def compare(case):
     """The count of answers compared (in a listing one for each entry) and the first difference, or None."""
     program, words, data = case
-    wanted = expected(program, words, data)
+    wanted, wanted_error = expected(program, words, data)
     out, err = run(program, words, data)
-    if wanted is None:
-        wanted = "usage: ask"
-        alike = out == "" and err.startswith("usage: ask ") and err.endswith("\n") and err.count("\n") == 1
-        out = f"{out}(standard error: {err})"
+    if wanted_error.startswith("usage: "):
+        told = err.startswith(wanted_error) and err.endswith("\n") and err.count("\n") == 1
     else:
-        alike = out == wanted
-    if alike:
+        told = err == wanted_error
+    if out == wanted and told:
         return max(1, wanted.count("\n") - 1), None
     return 0, (f"command: {program} {' '.join(words)[:1000]}\n{differing_entry(data, wanted, out)}"
-               f"input ({len(data)} bytes): {data.hex()}\nexpected: {wanted}\ncame: {out}")
+               f"input ({len(data)} bytes): {data.hex()}\nexpected: {wanted}(standard error: {wanted_error})\n"
+               f"came: {out}(standard error: {err})")
 
 
 def differing_entry(data, wanted, came):

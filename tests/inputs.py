@@ -1,5 +1,8 @@
 """The inputs of hostile.py, in groups. A case is a program, its arguments and its standard input."""
 
+import os
+import tempfile
+
 import reference
 from reference import INPUT_LIMIT
 from tables import A, B, D, E, NAMED, collection, damaged, far_table, in_a_row, late_repeat, packed, random_table, table
@@ -123,6 +126,58 @@ def steps_and_traces(rng):
     for length in (10000, 70000):
         yield ask(E, "trace", 3, *[0] * length, 1, 1)
         yield ask(E, "trace", 6, *[0] * length, 2, 1)
+
+
+FILES = tempfile.TemporaryDirectory()   # for traces; kept until the tests end, since a case is run after it is made
+
+
+def stored(name, messages):
+    """The word that names a new file with these messages."""
+    with open(os.path.join(FILES.name, name), "wb") as file:
+        file.write(bytes(messages))
+    return "@" + file.name
+
+
+def fallen_verdicts(rng):
+    """Traces that end before the verdict falls, when it falls, later, and never; both readings."""
+    for _ in range(250):
+        n, k = rng.randint(1, 64), rng.randint(1, 16)
+        body = rng.choice([random_table, vulnerable_table])(rng, n, k)
+        messages = [rng.randrange(k) for _ in range(rng.randint(0, 60))]
+        fell = reference.trace(body, 3, messages).count
+        ends = {0, len(messages)} | ({max(fell - 1, 0), fell} if fell is not None else set())
+        for end in sorted(ends):
+            for reading in (3, 6):
+                yield ask(body, "trace", reading, *messages[:end])
+
+
+def traces_in_files(rng):
+    """Messages from a file: none, one, as many as are taken and one more; wrong ones at the start, in the middle and at
+    the end; a file that is not there, a folder, no name; and a file beside other messages, which is no form."""
+    rules = collection([(7, A), (9, E)])
+    most = [rng.randrange(2) for _ in range(262144)]
+    quiet = [0] * 262144
+    late = quiet[:-2] + [1, 1]
+    for i, messages in enumerate(([], [1], [1, 1], [1, 0, 1], [0, 1, 1, 0], most, quiet, late, most[:262143], quiet + [1])):
+        name = stored(f"sound {i}", messages)
+        for reading in (3, 5, 6):
+            yield ask(E, "trace", reading, name)
+            yield ask(rules, "rule", rng.choice([7, 8, 9]), "trace", reading, name)
+        yield ask(E[:-1], "trace", 3, name)
+    for length in (1, 2, 3, 1000, 262144):
+        for place in sorted({0, length // 2, length - 1}):
+            for wrong in (2, 10, 48, 255):
+                messages = quiet[:length]
+                messages[place] = wrong
+                yield ask(E, "trace", rng.choice([3, 6]), stored(f"wrong {length} {place} {wrong}", messages))
+    sound = stored("sound", [1, 1])
+    for word in ("@", "@" + FILES.name, sound + "x", "@@", sound + "/", "@" + "x" * 5000, "@tests/none"):
+        yield ask(E, "trace", 3, word)
+        yield ask(rules, "rule", 9, "trace", 3, word)
+    for words in ([3, sound, 1], [3, 1, sound], [3, sound, sound], [sound], [sound, 3], ["x", sound]):
+        yield ask(E, "trace", *words)
+    yield ask(E, "step", 3, 0, sound)
+    yield ask(E, "classes", sound)
 
 
 # ---- refused tables and numbers --------------------------------------------------------------------------
@@ -387,7 +442,7 @@ def input_sizes(rng):
 
 
 GROUPS = [named_tables, small_listings, listings_of_all_sizes, far_listings, witnesses_of_small_tables,
-          witnesses_of_all_sizes, areas_for_witnesses, classes_of_tables, steps_and_traces, damaged_in_listings,
-          damaged_in_calls, lengths_and_counts, random_bytes, numbers_around_limits, leading_zeros, wrong_arguments,
-          cut_collections, altered_collections, counts_and_numbers, gaps_and_overlaps, random_collections,
-          rules_of_collections, input_sizes]
+          witnesses_of_all_sizes, areas_for_witnesses, classes_of_tables, steps_and_traces, fallen_verdicts,
+          traces_in_files, damaged_in_listings, damaged_in_calls, lengths_and_counts, random_bytes,
+          numbers_around_limits, leading_zeros, wrong_arguments, cut_collections, altered_collections,
+          counts_and_numbers, gaps_and_overlaps, random_collections, rules_of_collections, input_sizes]

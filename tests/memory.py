@@ -13,7 +13,7 @@ import subprocess
 import sys
 from concurrent.futures import ThreadPoolExecutor
 
-from inputs import ROOM, ask, listing
+from inputs import FILES, ROOM, ask, listing, stored
 from tables import A, D, collection, damaged, in_a_row, late_repeat, random_table, table
 
 PROGRAMS = sys.argv[1] if len(sys.argv) > 1 else os.path.join("target", "bin")
@@ -41,6 +41,11 @@ def large_tables():
     yield ask(far, "step", 6, 63, 15)
     yield ask(far, "trace", 6, *[rng.randrange(16) for _ in range(10000)])
     yield ask(far, "trace", 3, *[0] * 9999, 16)
+    for name, messages in (("none", []), ("most", [0] * 262143 + [15]), ("wrong", [0] * 262143 + [16]), ("longer", [0] * 262145)):
+        yield ask(far, "trace", 6, stored(name, messages))
+        yield ask(collection([(1, far)]), "rule", 1, "trace", 3, stored(name, messages))
+    for word in ("@", "@" + FILES.name, "@tests/none", "@" + LONG):
+        yield ask(far, "trace", 3, word)
     both = collection([(1, far), (65535, row)])
     yield listing(both)
     yield card(both)

@@ -85,6 +85,16 @@ def reading(b, d, q):
     return b[3 + q] if d == 3 else state_class(b, q)
 
 
+def count(b, w):
+    """After how many messages of the trace the mark is first true or false: a number, or the word never."""
+    q, read = b[2], 0
+    for a in w:
+        if b[3 + q]:
+            break
+        q, read = successors(b, q)[a], read + 1
+    return str(read) if b[3 + q] else "never"
+
+
 def small_tables():
     """Every accepted table with at most 2 states and 2 messages."""
     small = []

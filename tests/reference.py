@@ -15,7 +15,8 @@ HEADER = "rule states class loss corruption repeat swap\n"
 
 Table = namedtuple("Table", "n k start marks rows")
 Classes = namedtuple("Classes", "monitorability reached classes")
-Witness = namedtuple("Witness", "distance before kind replacement sent_reading received_reading sent")
+Traced = namedtuple("Traced", "reading count")
+Witness = namedtuple("Witness", "distance before kind replacement sent_reading received_reading sent sent_count received_count")
 
 
 class Refused(Exception):
@@ -105,16 +106,26 @@ def step(body, reading, state, message):
     return after, read_state(table, reading, after)
 
 
+def states_of(table, messages):
+    """The start, and the state after each message."""
+    states = [table.start]
+    for message in messages:
+        states.append(table.rows[states[-1]][message])
+    return states
+
+
+def count_of(table, messages):
+    """After how many messages the mark first became true or false; None is never."""
+    return next((i for i, state in enumerate(states_of(table, messages)) if table.marks[state] in (1, 2)), None)
+
+
 def trace(body, reading, messages):
-    """The reading of the state reached from the start."""
+    """The reading of the state reached from the start, and the count."""
     table = read_table(body)
     question(reading in (3, 6), 10, 0)
     for place, message in enumerate(messages):
         question(message < table.k, 12, place)
-    state = table.start
-    for message in messages:
-        state = table.rows[state][message]
-    return read_state(table, reading, state)
+    return Traced(read_state(table, reading, states_of(table, messages)[-1]), count_of(table, messages))
 
 
 # ---- the fault question ----------------------------------------------------------------------------------
@@ -145,6 +156,14 @@ def fault_steps(table, faults, state):
         if faults & SWAP:
             for m2 in range(table.k):
                 yield fault_step(SWAP, (m, m2)), (rows[after][m2], rows[rows[state][m2]][m])
+
+
+def delivered(key):
+    """The messages that a step delivers."""
+    plain, kind, sent, replacement = key
+    if plain:
+        return sent
+    return {LOSS: (), CORRUPTION: (replacement,), REPEAT: sent * 2, SWAP: sent[::-1]}[kind]
 
 
 def followers(table, faults, sent, received):
@@ -194,7 +213,9 @@ def fault(body, faults, reading, area_length):
     question(len(sent) <= area_length, 13, 0)
     before = next(i for i, key in enumerate(series) if key[0] == 0)
     _, kind, _, replacement = series[before]
-    return Witness(len(sent), before, kind, replacement, values[sent_state], values[received_state], sent)
+    received = [m for key in series for m in delivered(key)]
+    return Witness(len(sent), before, kind, replacement, values[sent_state], values[received_state], sent,
+                   count_of(table, sent), count_of(table, received))
 
 
 # ---- collections -----------------------------------------------------------------------------------------

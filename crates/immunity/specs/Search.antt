@@ -2,9 +2,10 @@
 -- reading.
 use mathlib.Core.Path.{_≡_}
 use mathlib.Core.List.{List}
-use mathlib.Core.Option.{Option}
+use mathlib.Core.Option.{Option, some}
 use Prim.Native.Nat.{ℕ, _≤_, _<_}
 use lib.ListN.{length, getD}
+use lib.Seq.{sets}
 use Rattle.theory.specs.Answer.{Answer, asks}
 use Rattle.theory.specs.Automaton.{Automaton, run}
 use Rattle.theory.specs.Monitor.{Monitor, stateLimit}
@@ -60,3 +61,7 @@ pub record Makes (g : Automaton) (start : ℕ) (outs : List ℕ) (s : Series) (h
   pub ranged : Ranged (g .symbols) (h .fault)
   pub sent : h .sent ≡ getD outs (run g start (sentTrace s)) 0
   pub received : h .received ≡ getD outs (run g start (receivedTrace s)) 0
+
+-- the sent trace of the first series went into the first places of an area
+abbrev pub SentInto : Option Series → List ℕ → List ℕ → Type 0
+SentInto first before after = (s : Series) → first ≡ some s → after ≡ sets before 0 (sentTrace s)

@@ -28,7 +28,7 @@ ghost use Rattle.pairs.specs.Square.{Squared, differing};
 ghost use Rattle.immunity.specs.Findings.{seriesFigures, witnessTrace, roomQuestions, faultQuestions};
 ghost use Rattle.immunity.specs.Findings.{tableFigures, faultAnswer, faultTrace, witnessValues, finding};
 ghost use Rattle.immunity.specs.Findings.{columnFigures, cardAsking, cardAnswer, found, carded};
-ghost use Rattle.immunity.specs.Search.{firstOf, answerOf, Posed, Ready, Makes, automatonIn};
+ghost use Rattle.immunity.specs.Search.{firstOf, answerOf, Posed, Ready, Makes, SentInto, automatonIn};
 
 // A witness whose sent trace stands in the area: its length, the symbols before the fault, the fault's kind, the
 // replacement, what the sent and the received trace read, and after how many symbols of each its verdict falls.
@@ -94,8 +94,8 @@ fn harm_of(
         (length (now area)) ⌝ }
     ensures series { λ r. ⌜ ((s : Series) → firstOf t (now (outputs .entry)) (now (nexts .entry)) (set .bits) ≡ some s
         → Makes (automatonIn t (now (nexts .entry))) (t .start) (now (outputs .entry)) s r) ⌝ }
-    ensures area { λ _. ⌜ ((s : Series) → firstOf t (now (outputs .entry)) (now (nexts .entry)) (set .bits) ≡ some s
-        → now (area .exit) ≡ sets (now (area .entry)) 0 (sentTrace s)) ⌝ }
+    ensures area { λ _. ⌜ SentInto (firstOf t (now (outputs .entry)) (now (nexts .entry)) (set .bits))
+        (now (area .entry)) (now (area .exit)) ⌝ }
 {
     let n = t.states;
     let k = t.symbols;
@@ -137,8 +137,8 @@ fn witness_of(
     ensures figures { λ r. ⌜ ((s : Series) → firstOf t (now (outputs .entry)) (now (nexts .entry)) (set .bits) ≡ some s
         → witnessValues r
         ≡ seriesFigures (λ q. getD (now (outputs .entry)) q 0) (monitorIn t (marks .entry) (nexts .entry)) s) ⌝ }
-    ensures area { λ _. ⌜ ((s : Series) → firstOf t (now (outputs .entry)) (now (nexts .entry)) (set .bits) ≡ some s
-        → now (area .exit) ≡ sets (now (area .entry)) 0 (sentTrace s)) ⌝ }
+    ensures area { λ _. ⌜ SentInto (firstOf t (now (outputs .entry)) (now (nexts .entry)) (set .bits))
+        (now (area .entry)) (now (area .exit)) ⌝ }
 {
     let harm = harm_of(outputs, square, costs, totals, nexts, t, set, area);
     let fault = harm.fault;
