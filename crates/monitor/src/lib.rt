@@ -5,12 +5,12 @@ use theory::SYMBOL_LIMIT;
 ghost use mathlib.Core.Path.{_≡_};
 ghost use Prim.Native.Nat.{_*_, _<_};
 ghost use lib.ListN.{length};
-ghost use Rattle.theory.specs.Below.{first};
+ghost use Rattle.theory.specs.Below.{any, first};
 ghost use Rattle.theory.specs.Monitor.{stateLimit};
 ghost use Rattle.theory.specs.Answer.{Answer, asks};
 ghost use Rattle.monitor.specs.Format.{drawnMarks, nexts, Rows, graph};
 ghost use Rattle.monitor.specs.Opening.{Opens};
-ghost use Rattle.monitor.specs.Questions.{firstNotBelow, revokes, firstRevoking};
+ghost use Rattle.monitor.specs.Questions.{notBelow, firstNotBelow, revokes, firstRevoking};
 ghost use Rattle.monitor.specs.Questions.{headQuestions, rowQuestions, noValues, judgement, judgeAnswer};
 
 pub enum Judgement {
@@ -37,10 +37,26 @@ fn refused(number: usize, place: usize) -> Judgement
     Judgement::Refused(Refusal { number, place })
 }
 
-// The index of the first byte that is not below the bound, or the length.
+// Whether some byte is not below the bound. The loop has one way out, so that the compiler can take many bytes at once.
+fn some_not_below(bytes: &[u8], bound: u8) -> bool
+    ensures { λ r. ⌜ r ≡ any (length (now (bytes .entry))) (notBelow bound (now (bytes .entry))) ⌝ }
+{
+    let mut found = false;
+    let mut i = 0;
+    while i < bytes.len() {
+        found = found | (bytes[i] >= bound);
+        i += 1;
+    }
+    found
+}
+
+// The index of the first byte that is not below the bound, or the length. It is looked for only where there is one.
 pub fn first_not_below(bytes: &[u8], bound: u8) -> usize
     ensures { λ r. ⌜ r ≡ firstNotBelow bound (now (bytes .entry)) ⌝ }
 {
+    if !some_not_below(bytes, bound) {
+        return bytes.len();
+    }
     let mut i = 0;
     while i < bytes.len() {
         if bytes[i] >= bound {

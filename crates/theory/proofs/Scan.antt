@@ -42,6 +42,11 @@ scan-finds {f} {a} {c} {i} p e = sym (first-is f c a i (p .from) (p .upto) (p .f
 pub scan-ends : {f : ℕ → Bool} {a c i : ℕ} → Passed f a c i → a + c ≤ i → i ≡ first f a c
 scan-ends {f} {a} {c} {i} p l = sym (first-is f c a i (p .from) (p .upto) (p .fails) (λ h. absurd (omega arith)))
 
+-- none of the numbers below c passes
+pub scan-nothing : (f : ℕ → Bool) (c : ℕ) → any c f ≡ false → c ≡ first f 0 c
+scan-nothing f c e =
+    scan-ends {i = c} (record { from = zero-le; upto = omega arith; fails = λ j _ l. not-clash (λ t. clash (any-at c f j l t) e) }) (omega arith)
+
 -- whether some number below c passes
 pub scan-some : {f : ℕ → Bool} {c i : ℕ} → Passed f 0 c i → i < c → f i ≡ true → true ≡ any c f
 scan-some {f} {c} {i} p l e = sym (any-at c f i l e)
