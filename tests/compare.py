@@ -146,15 +146,17 @@ def random_questions():
 
 def fallen_questions():
     """Traces whose verdict falls at the start, early, at the last message, one message later, and never; both readings."""
-    r = random.Random(21)
+    r, kinds = random.Random(21), set()
     tables = SAMPLES + [random_table(r) for _ in range(300)] + [b for b in small_tables() if b[3 + b[2]]]
     for b in tables:
         k = b[1]
         w = [r.randrange(k) for _ in range(200)]
         fell = count(b, w)
         lengths = {0, 1, 200} if fell == "never" else {0, max(int(fell) - 1, 0), int(fell), int(fell) + 1, 200}
-        for d, length in itertools.product((3, 6), lengths):
+        for d, length in itertools.product((3, 6), sorted(lengths)):
+            kinds.add("never" if fell == "never" or length < int(fell) else "start" if fell == "0" else "last" if length == int(fell) else "early")
             yield ask_trace(b, d, w[:length])
+    assert kinds == {"never", "start", "last", "early"}, kinds
 
 
 total = compare(itertools.chain(small_questions(), damaged_questions(), refused_questions(), random_questions(), fallen_questions()))

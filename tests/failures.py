@@ -106,19 +106,24 @@ def unreadable_input():
 
 
 def unreadable_file():
-    """A trace's file that is not there, that is a folder, that the user may not read or that fails, and one that is too
-    long. Nothing is answered, and nothing is read of standard input."""
+    """A trace's file that is not there, that is a folder, that cannot be read, that is too long, and, unless this is
+    root, who may read all, that the user may not read. Nothing is answered, and nothing is read of standard input."""
     locked = stored("locked", [1, 1])
     os.chmod(locked[1:], 0)
+    longer = stored("longer", [0] * 262145)
     failing = [("@tests/none", "tests/none: No such file or directory"), ("@tests", "tests: Is a directory"),
                ("@/proc/self/mem", "/proc/self/mem: Input/output error"),
-               (stored("longer", [0] * 262145), "more than 262144 messages")]
+               (longer, f"{longer[1:]}: more than 262144 messages")]
     if os.geteuid() != 0:
         failing.append((locked, f"{locked[1:]}: Permission denied"))
     for word, reason in failing:
         for words, data in ((["ask", "trace", "3", word], E), (["ask", "rule", "20", "trace", "6", word], SAMPLE)):
-            _, out, err = run(words, data)
-            check("a file that cannot be read", words, (out, err), (b"", f"ask: {reason}\n"))
+            with tempfile.TemporaryFile() as file:
+                file.write(data)
+                file.seek(0)
+                _, out, err = run(words, data, stdin=file)
+                left_at = os.lseek(file.fileno(), 0, os.SEEK_CUR)
+            check("a file that cannot be read", words, (out, err, left_at), (b"", f"ask: {reason}\n", 0))
 
 
 def small_stack():

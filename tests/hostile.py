@@ -38,7 +38,7 @@ def are_numbers(words):
 
 def named_file(words):
     """The file that a trace names in place of messages, None if it does not."""
-    return words[2][1:] if words[:1] == ["trace"] and len(words) == 3 and words[2].startswith("@") else None
+    return words[2][1:] if words[:1] == ["trace"] and len(words) == 3 and words[2].startswith("@") and words[2] != "@" else None
 
 
 def is_form(words):
@@ -65,7 +65,7 @@ def messages_of(words):
     except OSError as error:
         raise Unreadable(f"ask: {name}: {os.strerror(error.errno)}\n")
     if len(messages) > MESSAGE_LIMIT:
-        raise Unreadable(f"ask: more than {MESSAGE_LIMIT} messages\n")
+        raise Unreadable(f"ask: {name}: more than {MESSAGE_LIMIT} messages\n")
     return messages
 
 

@@ -140,6 +140,7 @@ def stored(name, messages):
 
 def fallen_verdicts(rng):
     """Traces that end before the verdict falls, when it falls, later, and never; both readings."""
+    kinds = set()
     for _ in range(250):
         n, k = rng.randint(1, 64), rng.randint(1, 16)
         body = rng.choice([random_table, vulnerable_table])(rng, n, k)
@@ -147,8 +148,10 @@ def fallen_verdicts(rng):
         fell = reference.trace(body, 3, messages).count
         ends = {0, len(messages)} | ({max(fell - 1, 0), fell} if fell is not None else set())
         for end in sorted(ends):
+            kinds.add("never" if fell is None or end < fell else "start" if fell == 0 else "last" if end == fell else "early")
             for reading in (3, 6):
                 yield ask(body, "trace", reading, *messages[:end])
+    assert kinds == {"never", "start", "last", "early"}, kinds
 
 
 def traces_in_files(rng):

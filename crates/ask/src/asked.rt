@@ -122,13 +122,22 @@ fn classes_asked(subject: Subject, at: usize, behind: usize, space: &mut [u8]) -
     Asked::Form { subject, form }
 }
 
-// The messages that so many arguments from `at` on stand for: a file, if there is one argument and it begins with @.
+// Whether an argument is @ and a name behind it.
+fn names_file(at: usize, space: &mut [u8]) -> bool {
+    let length = os::arg(at, space);
+    if length < 2 {
+        return false;
+    }
+    basics::byte_at(space, 0) == FILE_SIGN
+}
+
+// The messages that so many arguments from `at` on stand for: a file, if there is one argument and it names one.
 fn source_asked(at: usize, count: usize, space: &mut [u8]) -> Source {
-    if count == 1 {
-        let length = os::arg(at, space);
-        if basics::byte_at(&space[..length], 0) == FILE_SIGN {
-            return Source::File { argument: at };
-        }
+    if count != 1 {
+        return Source::Arguments(count);
+    }
+    if names_file(at, space) {
+        return Source::File { argument: at };
     }
     Source::Arguments(count)
 }

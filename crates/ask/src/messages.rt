@@ -13,16 +13,12 @@ const LIMIT: usize = 262144;
 // One more, by which a longer trace shows.
 pub const ROOM: usize = LIMIT + 1;
 
-// What gathering them came to: how many there are, a word that is no message, or a failure that standard error has told.
+// What gathering them came to: how many there are, a word that is no message, or a failure that standard error has
+// told.
 pub enum Gathered {
     Messages { count: usize },
     Unclear,
     Failed,
-}
-
-fn too_many() -> Gathered {
-    output::complaint(Program::Ask, b"more than 262144 messages");
-    Gathered::Failed
 }
 
 // The byte of a message. A greater number becomes 255, which is no message of any table either.
@@ -50,10 +46,11 @@ fn read_messages(area: &mut [u8], space: &mut [u8]) -> bool {
     true
 }
 
-// So many arguments.
+// The last arguments, so many, a message each.
 fn from_arguments(count: usize, area: &mut [u8], space: &mut [u8]) -> Gathered {
     if count >= area.len() {
-        return too_many();
+        output::complaint(Program::Ask, b"more than 262144 messages");
+        return Gathered::Failed;
     }
     if read_messages(&mut area[0..count], space) {
         return Gathered::Messages { count };
@@ -61,13 +58,16 @@ fn from_arguments(count: usize, area: &mut [u8], space: &mut [u8]) -> Gathered {
     Gathered::Unclear
 }
 
-// The bytes of a file, a message each. Its name stands in an argument, behind a sign.
+// The bytes of a file, a message each. Its name stands in an argument, behind the @.
 fn from_file(argument: usize, area: &mut [u8], space: &mut [u8]) -> Gathered {
     let length = os::arg(argument, space);
     let name = basics::part(&space[..length], 1, length);
     match input::read_file(Program::Ask, name, area) {
         Filled::Whole { length: count } => Gathered::Messages { count },
-        Filled::Longer => too_many(),
+        Filled::Longer => {
+            output::complaint_of(Program::Ask, name, b"more than 262144 messages");
+            Gathered::Failed
+        }
         Filled::Failed => Gathered::Failed,
     }
 }

@@ -5,10 +5,10 @@ use output::Program;
 // A wrong form: one line on standard error.
 pub fn usage() {
     output::error_text(
-        b"usage: ask judge | classes AREA | step READING STATE MESSAGE | trace READING MESSAGE.. or @FILE",
+        b"usage: ask judge | classes AREA | step READING STATE MESSAGE | trace READING MESSAGE..",
     );
-    output::error_text(b" | fault SET READING AREA | rule RULE FORM.. | collection | why NUMBER");
-    output::error_text(b"; ask --help says more\n");
+    output::error_text(b" | trace READING @FILE | fault SET READING AREA | rule RULE FORM..");
+    output::error_text(b" | collection | why NUMBER; ask --help says more\n");
 }
 
 fn forms(out: Output) -> Output {
@@ -21,7 +21,7 @@ fn forms(out: Output) -> Output {
         )
         .text(b"  ask step READING STATE MESSAGE   the next state and its reading\n")
         .text(
-            b"  ask trace READING MESSAGE..      the reading after these messages, and after how many its verdict fell\n",
+            b"  ask trace READING MESSAGE..      the reading, and after how many messages the verdict fell\n",
         )
         .text(
             b"  ask trace READING @FILE          the same for the bytes of a file, a message each\n",

@@ -26,8 +26,8 @@ use Rattle.readings.proofs.Following.{followed-count, followed-whole, count-end
 pub rest-is : (w : List ℕ) (i : ℕ) {r : List ℕ} → r ≡ take (length w) (drop i w) → r ≡ drop i w
 rest-is w i e = e ∙ take-all (length w) (drop i w) (omega (arith, length-drop i w))
 
-pub struck-is : (s : Symbols) {d r : List ℕ} → s .count ≤ 2 → d ≡ sets (replicate 2 0) 0 (traceOf s) → r ≡ take (s .count) (drop 0 d) → r ≡ traceOf s
-struck-is s l ed er =
+pub delivered-is : (s : Symbols) {d r : List ℕ} → s .count ≤ 2 → d ≡ sets (replicate 2 0) 0 (traceOf s) → r ≡ take (s .count) (drop 0 d) → r ≡ traceOf s
+delivered-is s l ed er =
     let size = count-is s l in
     er ∙ ap (take (s .count)) (ed ∙ sets-eq (traceOf s) (replicate 2 0) 0 (omega (arith, size)))
     ∙ take-at (traceOf s) (drop (0 + length (traceOf s)) (replicate 2 0)) (s .count) (sym size)
@@ -54,9 +54,9 @@ module _ (g : Automaton) where
     rest-passes er = rw (rest-is w i er) (trace-passed g (drop i w) (trace-rest w i (passed-trace g w e)))
 
   -- the symbols delivered
-  pub struck-passes : (s : Symbols) → Inside (g .symbols) s → {r : List ℕ} → r ≡ traceOf s → firstNotBelow (g .symbols) r ≡ length r
+  pub delivered-passes : (s : Symbols) → Inside (g .symbols) s → {r : List ℕ} → r ≡ traceOf s → firstNotBelow (g .symbols) r ≡ length r
   unfolding Trace
-  struck-passes s i er = rw er (trace-passed g (traceOf s) (trace-front (s .first ∷ s .second ∷ []) (s .count) (i .first-in, (i .second-in, tt))))
+  delivered-passes s i er = rw er (trace-passed g (traceOf s) (trace-front (s .first ∷ s .second ∷ []) (s .count) (i .first-in, (i .second-in, tt))))
 
 -- ---- the count of the three
 

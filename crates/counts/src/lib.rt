@@ -3,15 +3,12 @@ use faults::Fault;
 use monitor::Shape;
 use readings::Count;
 ghost use mathlib.Core.Path.{_≡_};
-ghost use Prim.Native.Nat.{_+_, _≤_, _<_};
 ghost use lib.ListN.{length};
 ghost use Rattle.theory.specs.Count.{verdictCount};
 ghost use Rattle.monitor.specs.Opening.{monitorIn, TableIn};
 ghost use Rattle.monitor.specs.Questions.{firstNotBelow};
-ghost use Rattle.pairs.specs.Square.{never};
-ghost use Rattle.faults.specs.Steps.{Ranged};
 ghost use Rattle.readings.specs.Readings.{counted};
-ghost use Rattle.counts.specs.Traces.{deliveredTrace, Struck};
+ghost use Rattle.counts.specs.Traces.{deliveredTrace, FaultWithin};
 
 // The counts of a sent trace and of what is received in its place.
 pub struct Counts {
@@ -39,16 +36,17 @@ fn received_count(
     fault: Fault,
 ) -> Count
     requires { ⌜ TableIn t marks nexts
-        × Struck t (now trace) before fault ⌝ }
+        × FaultWithin t (now trace) before fault ⌝ }
     ensures { λ r. ⌜ counted r
-        ≡ verdictCount (monitorIn t (marks .entry) (nexts .entry)) (deliveredTrace (now (trace .entry)) before fault) ⌝ }
+        ≡ verdictCount (monitorIn t (marks .entry) (nexts .entry))
+        (deliveredTrace (now (trace .entry)) before fault) ⌝ }
 {
-    let mut delivered = [0u8; 2];
-    faults::write_symbols(fault.received, &mut delivered, 0);
-    let struck = basics::part(&delivered, 0, fault.received.count);
+    let mut space = [0u8; 2];
+    faults::write_symbols(fault.received, &mut space, 0);
+    let delivered = basics::part(&space, 0, fault.received.count);
     let rest = basics::part(trace, before + fault.sent.count, trace.len());
     let one = readings::follow(marks, nexts, t, t.start, basics::part(trace, 0, before));
-    let two = readings::follow(marks, nexts, t, one.state, struck);
+    let two = readings::follow(marks, nexts, t, one.state, delivered);
     let three = readings::follow(marks, nexts, t, two.state, rest);
     readings::count_at(marks, three.state, one.read + two.read + three.read)
 }
@@ -63,11 +61,12 @@ pub fn counts_of(
     fault: Fault,
 ) -> Counts
     requires { ⌜ TableIn t marks nexts
-        × Struck t (now trace) before fault ⌝ }
+        × FaultWithin t (now trace) before fault ⌝ }
     ensures sent { λ r. ⌜ counted (r .sent)
         ≡ verdictCount (monitorIn t (marks .entry) (nexts .entry)) (now (trace .entry)) ⌝ }
     ensures received { λ r. ⌜ counted (r .received)
-        ≡ verdictCount (monitorIn t (marks .entry) (nexts .entry)) (deliveredTrace (now (trace .entry)) before fault) ⌝ }
+        ≡ verdictCount (monitorIn t (marks .entry) (nexts .entry))
+        (deliveredTrace (now (trace .entry)) before fault) ⌝ }
 {
     Counts {
         sent: count_of(marks, nexts, t, trace),

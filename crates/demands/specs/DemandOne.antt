@@ -8,7 +8,7 @@ use lib.ListN.{length}
 use Rattle.theory.specs.Lists.{In}
 use Rattle.theory.specs.Answer.{Question, Answer, refused, answered, written}
 use Rattle.monitor.specs.Format.{monitorOf}
-use Rattle.monitor.specs.Questions.{tableQuestions, judgeAnswer}
+use Rattle.monitor.specs.Questions.{tableQuestions, noValues, judgeAnswer}
 use Rattle.collection.specs.Contents.{countOf, collectionQuestions, collectionAnswer}
 use Rattle.classes.specs.Classify.{classList, classifyAnswer}
 use Rattle.immunity.specs.Findings.{faultAnswer, faultTrace}
@@ -46,7 +46,7 @@ pub record Lent {A : Type 0} (answer : Answer A) (bytes area : List ℕ) : Type 
 -- a body, a collection file and an area, each of any content and length; `limit` is the greatest number of states
 pub record DemandOne (limit : ℕ) (body file area : List ℕ) : Type 0 where
   -- a body is asked questions 1 to 8
-  pub table : Judged (tableQuestions limit body) [] (judgeAnswer limit body)
+  pub table : Judged (tableQuestions limit body) noValues (judgeAnswer limit body)
   -- a collection is asked questions 20 to 25, and answers its count
   pub collection : Judged (collectionQuestions file) (countOf file ∷ []) (collectionAnswer file)
   -- the calls that are lent an area: classes, the fault question, a line of the listing

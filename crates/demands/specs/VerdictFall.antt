@@ -7,6 +7,7 @@ use lib.ListN.{length, take}
 use Rattle.theory.specs.Answer.{answered}
 use Rattle.theory.specs.Extent.{Extent, number, missing}
 use Rattle.theory.specs.Count.{FirstVerdict, verdictCount}
+use Rattle.theory.specs.Series.{Series, sentTrace, receivedTrace}
 use Rattle.theory.specs.Distance.{reads}
 use Rattle.monitor.specs.Format.{monitorOf}
 use Rattle.readings.specs.Readings.{traceAnswer}
@@ -25,4 +26,11 @@ pub record VerdictFall (limit : ℕ) (b w : List ℕ) : Type 0 where
       → (i ≤ length w) × (reads (monitorOf b) 3 (take i w) ≡ reads (monitorOf b) 3 w)
   -- under both readings the trace is answered with its reading and this count
   pub answers : (d : ℕ) → (d ≡ 3) ⊎ (d ≡ 6)
-      → traceAnswer limit b d w ≡ answered (record { reading = reads (monitorOf b) d w; count = verdictCount (monitorOf b) w })
+      → traceAnswer limit b d w
+      ≡ answered (record { reading = reads (monitorOf b) d w; count = verdictCount (monitorOf b) w })
+
+-- "Every witness carries the count of its sent and of its received trace": both are traces of the table, and the above
+-- holds of each
+pub record WitnessFall (limit : ℕ) (b : List ℕ) (s : Series) : Type 0 where
+  pub sent : VerdictFall limit b (sentTrace s)
+  pub received : VerdictFall limit b (receivedTrace s)

@@ -184,6 +184,7 @@ fn counts() {
     trace(b"E on 1 0 1 by class: ", e, 6, b"\x01\x00\x01");
     trace(b"A on 0 0 1 0: ", a, 3, b"\x00\x00\x01\x00");
     trace(b"A on 0 0 1 0 by class: ", a, 6, b"\x00\x00\x01\x00");
+    trace(b"A on 65700 messages, true at the last: ", a, 3, &long(1));
     trace(b"H, empty trace: ", h, 3, b"");
     trace(b"H on 0: ", h, 6, b"\x00");
     trace(b"a start marked true: ", marked, 3, b"");
@@ -196,12 +197,6 @@ fn trace_refusals() {
     trace(b"reading 5, message 9: ", e, 5, b"\x09");
     trace(b"a refused body: ", b"", 3, b"");
     trace(b"E on 65700 messages: ", e, 3, &long(0));
-    trace(
-        b"A, true at the last: ",
-        b"\x02\x02\x00\x00\x01\x00\x01\x01\x01",
-        3,
-        &long(1),
-    );
     trace(b"and the last is 2: ", e, 3, &long(2));
 }
 

@@ -14,6 +14,7 @@ use Rattle.theory.proofs.Lists.{some-same}
 use Rattle.theory.proofs.Faults.{steps-good, steps-rise}
 use Rattle.theory.proofs.Witness.{first-harms, sent-trace, sent-length}
 use Rattle.monitor.specs.declared.Shape.{Shape}
+use Rattle.monitor.specs.Opening.{monitorFrom}
 use Rattle.pairs.specs.Square.{differing}
 use Rattle.faults.specs.Kinds.{bitOf}
 use Rattle.faults.specs.Steps.{traceOf}
@@ -21,10 +22,10 @@ use Rattle.faults.proofs.AtMostTwo.{count-is}
 use Rattle.readings.specs.Readings.{counted}
 use Rattle.readings.proofs.Traces.{trace-passed}
 use Rattle.counts.specs.declared.Counts.{Counts}
-use Rattle.counts.specs.Traces.{deliveredTrace, Struck}
+use Rattle.counts.specs.Traces.{deliveredTrace, FaultWithin}
 use Rattle.immunity.specs.declared.Harm.{Harm}
 use Rattle.immunity.specs.Findings.{seriesFigures, witnessValues}
-use Rattle.immunity.specs.Search.{automatonIn, monitorFrom, firstOf, Ready, Makes}
+use Rattle.immunity.specs.Search.{automatonIn, firstOf, Ready, Makes}
 use Rattle.immunity.proofs.Made.{search-ready}
 use Rattle.immunity.proofs.Answers.{search-some}
 
@@ -53,15 +54,14 @@ module _ {t : Shape} {set : ℕ} {outs square costs v ts : List ℕ} {room : ℕ
       covers : h .fault .sent .count ≡ length (s .fault .sent)
       covers = count-is (h .fault .sent) (k .ranged .sent-in .count-most) ∙ ap (λ (f : FaultStep). length (f .sent)) (k .fault)
 
-      pub made-struck : Struck t (sentTrace s) (h .before) (h .fault)
-      made-struck =
+      pub made-within : FaultWithin t (sentTrace s) (h .before) (h .fault)
+      made-within =
           let valid = first-harms g (differing outs) (steps set (t .symbols)) (search-ready r .closed) (steps-good g set) (t .start) (r .posed .start-in)
           (steps-rise set (t .symbols)) s e .harm .valid in
           record {
             trace = trace-passed g (sentTrace s) (sent-trace g (steps set (t .symbols)) (steps-good g set) s valid);
             ranged = k .ranged;
             within = (let x = sent-length s in let y = covers in let z = k .before in omega (arith, x, y, z));
-            short = (let x = r .some in let y = long in omega (arith, x, y));
           }
 
       -- what is delivered is the received trace

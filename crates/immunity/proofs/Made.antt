@@ -21,7 +21,7 @@ use Rattle.monitor.proofs.Rows.{next-of-rows}
 use Rattle.pairs.specs.Square.{never, entry, differing, path}
 use Rattle.pairs.proofs.Path.{path-length}
 use Rattle.faults.specs.declared.Fault.{Fault}
-use Rattle.faults.specs.Steps.{stepFor, Inside, Ranged, costOf, costing, Costs}
+use Rattle.faults.specs.Steps.{stepFor, Ranged, costOf, costing, Costs}
 use Rattle.faults.proofs.AtMostTwo.{count-is}
 use Rattle.totals.specs.Totals.{Relaxed, wayToFault}
 use Rattle.immunity.specs.declared.Harm.{Harm}

@@ -8,11 +8,12 @@ use lib.ListN.{length, getD}
 use lib.Seq.{sets}
 use Rattle.theory.specs.Answer.{Answer, asks}
 use Rattle.theory.specs.Automaton.{Automaton, run}
-use Rattle.theory.specs.Monitor.{Monitor, stateLimit}
+use Rattle.theory.specs.Monitor.{stateLimit}
 use Rattle.theory.specs.Faults.{steps}
 use Rattle.theory.specs.Series.{Series, sentTrace, receivedTrace}
 use Rattle.theory.specs.Computed.{firstHarmful}
-use Rattle.monitor.specs.Format.{automatonOf, tableOf, Rows}
+use Rattle.monitor.specs.Format.{automatonOf, Rows}
+use Rattle.monitor.specs.Opening.{monitorFrom}
 use Rattle.monitor.specs.declared.Shape.{Shape}
 use Rattle.pairs.specs.Square.{never, Squared, differing}
 use Rattle.faults.specs.Steps.{stepFor, Ranged, Costs}
@@ -23,10 +24,6 @@ use Rattle.immunity.specs.Findings.{FaultFigures, witnessFigures, roomQu
 -- the automaton of a shape and its next states
 abbrev pub automatonIn : Shape → List ℕ → Automaton
 automatonIn t ts = automatonOf (t .states) (t .symbols) ts
-
--- with its marks, the monitor
-abbrev pub monitorFrom : Shape → List ℕ → List ℕ → Monitor
-monitorFrom t vs ts = tableOf (t .states) (t .symbols) (t .start) vs ts
 
 -- the first harmful series of a table whose states have these outputs
 abbrev pub firstOf : Shape → List ℕ → List ℕ → ℕ → Option Series
@@ -53,7 +50,7 @@ pub record Ready (t : Shape) (set : ℕ) (outs square costs totals ts : List ℕ
   pub some : getD totals (t .start) 0 < never
   pub fits : getD totals (t .start) 0 ≤ room
 
--- h is the series s as the search makes it
+-- what the search hands out of the series s
 pub record Makes (g : Automaton) (start : ℕ) (outs : List ℕ) (s : Series) (h : Harm) : Type 0 where
   pub distance : h .distance ≡ length (sentTrace s)
   pub before : h .before ≡ length (s .before)

@@ -40,7 +40,8 @@ fn ended(got: isize, length: usize) -> Filled {
     Filled::Whole { length }
 }
 
-// Reads into the first bytes of a space, at most so many, one of which is too many: by it a longer input shows.
+// Reads into the first bytes of a space, up to `most` bytes. That is one more than there may be, so if all of them come
+// there are too many.
 fn fill(descriptor: i32, space: &mut [u8], most: usize) -> Filled {
     let size = basics::least_of(most, space.len());
     let mut done = 0;

@@ -145,6 +145,7 @@ module _ {limit : ℕ} {b : List ℕ} {t : Shape} {space : List ℕ} (h : Accept
           (same, eb ∙ ap (λ (m : Monitor). written answer (bytes m) area) monitor-handed ∙ ap (λ (a : Answer A). written a (bytes (monitorOf b)) area) same)
 
 -- a refused body, likewise
-pub refused-writes : {A : Type 0} (limit : ℕ) (b : List ℕ) (more : List Question) (values : A) (bytes area : List ℕ) {x : Refusal} → judgeAnswer limit b ≡ refusal x
+pub refused-writes : {A : Type 0} (limit : ℕ) (b : List ℕ) (more : List Question) (values : A) (bytes area : List ℕ) {x : Refusal}
+    → judgeAnswer limit b ≡ refusal x
     → (refusal x ≡ asks (tableQuestions limit b ++ more) values) × (area ≡ written (asks (tableQuestions limit b ++ more) values) bytes area)
 refused-writes limit b more values bytes area e = (let no = refused-asks limit b more values e in (sym no, untouched bytes area no))

@@ -41,6 +41,15 @@ pub fn complaint(program: Program, what: &[u8]) {
     error_text(b"\n");
 }
 
+// The same of a thing that has a name.
+pub fn complaint_of(program: Program, name: &[u8], what: &[u8]) {
+    error_name(program);
+    error_text(name);
+    error_text(b": ");
+    error_text(what);
+    error_text(b"\n");
+}
+
 // The output of a program, nothing written yet.
 pub fn standard(program: Program) -> Output {
     Output {

@@ -7,10 +7,9 @@ use native.Mathlib.Numerals.{add-one}
 use native.Mathlib.Omega.{arith}
 use lib.ListN.{length, getD, drop, drop-of-length-le}
 use lib.Seq.{drop-cons}
-use lib.Dec.{eqb}
-use borrow.Author.Tests.{eq-eqb, ne-eqb, eqb-true, eqb-false}
+use borrow.Author.Tests.{eq-eqb, ne-eqb, eqb-false}
 use Rattle.theory.specs.Extent.{Extent, number, missing}
-use Rattle.theory.specs.Automaton.{Automaton, Trace, run}
+use Rattle.theory.specs.Automaton.{Trace, run}
 use Rattle.theory.specs.Monitor.{Monitor, WellFormed, marked, reading}
 use Rattle.theory.specs.Count.{later, countFrom}
 use Rattle.theory.proofs.Count.{later-none, later-later, count-now, verdict-stays, reads-alike}
@@ -81,7 +80,8 @@ module _ (m : Monitor) where
 -- ---- what is left to count
 
 module _ (m : Monitor) where
-  count-until : (q : ℕ) (w v : List ℕ) → countFrom m q (w ++ v) ≡ later (length (untilVerdict m q w)) (countFrom m (run (m .automaton) q (untilVerdict m q w)) v)
+  count-until : (q : ℕ) (w v : List ℕ)
+      → countFrom m q (w ++ v) ≡ later (length (untilVerdict m q w)) (countFrom m (run (m .automaton) q (untilVerdict m q w)) v)
   unfolding countFrom untilVerdict run
   count-until q [] v = sym (later-none (countFrom m q v))
   count-until q (a ∷ w) v = go (marked m 0 q) refl (count-until (m .automaton .next q a) w v)
@@ -136,7 +136,7 @@ module _ {limit : ℕ} {m : Monitor} (h : WellFormed limit m) (d : ℕ) where
       go false e rest =
           let n = eqb-false (m .verdict q) 0 e in
           let some : 0 < m .verdict q = omega (arith, n) in
-          sym (reads-alike h d (run (m .automaton) q (a ∷ w)) q some (verdict-stays h q (a ∷ w) l t some))
+          sym (reads-alike m d (run (m .automaton) q (a ∷ w)) q some (verdict-stays h q (a ∷ w) l t some))
 
   pub followed-reads : {q : ℕ} {w : List ℕ} {to : Progress} {r : ℕ} → Followed m q w to → q < m .automaton .states → Trace (m .automaton) w
       → r ≡ reading m d (to .state) → r ≡ reading m d (run (m .automaton) q w)

@@ -1,4 +1,4 @@
--- Layers: reading a trace up to its first verdict.
+-- Reading a trace up to its first verdict.
 use mathlib.Core.Path.{_≡_}
 use mathlib.Core.Bool.{cond}
 use mathlib.Core.List.{List, [], _∷_}
@@ -8,12 +8,12 @@ use Rattle.theory.specs.Automaton.{run}
 use Rattle.theory.specs.Monitor.{Monitor, marked}
 use Rattle.readings.specs.declared.Progress.{Progress}
 
--- the symbols of w that come from state q on before a verdict has fallen: all where none does
+-- the symbols of w that are read from state q on until a verdict falls; all of them where none falls
 unfoldable pub untilVerdict : Monitor → ℕ → List ℕ → List ℕ
 untilVerdict m q [] = []
 untilVerdict m q (a ∷ w) = cond (marked m 0 q) (a ∷ untilVerdict m (m .automaton .next q a) w) []
 
--- these were read from state q on
+-- where reading them from state q on ends, and how many they are
 pub record Followed (m : Monitor) (q : ℕ) (w : List ℕ) (to : Progress) : Type 0 where
   pub arrives : to .state ≡ run (m .automaton) q (untilVerdict m q w)
   pub counts : to .read ≡ length (untilVerdict m q w)

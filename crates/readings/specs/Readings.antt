@@ -45,16 +45,17 @@ unfoldable pub traceAnswer : ℕ → List ℕ → ℕ → List ℕ → Answer Tr
 traceAnswer limit b d w =
     asks (tableQuestions limit b ++ traceQuestions d w (monitorOf b)) (traceFigures d w (monitorOf b))
 
--- 01's numbers of the two answers
-abbrev pub stepped : Stepped → Answer (List ℕ)
-stepped (Stepped.To q r) = answered (q ∷ r ∷ [])
-stepped (Stepped.Refused r) = refusal r
-
 -- a count as a number, or never
 abbrev pub counted : Count → Extent
 counted (Count.After i) = number i
 counted Count.Never = missing
 
+-- 01's number and place of a refusal, or the values of a step
+abbrev pub stepped : Stepped → Answer (List ℕ)
+stepped (Stepped.To q r) = answered (q ∷ r ∷ [])
+stepped (Stepped.Refused r) = refusal r
+
+-- the same of a trace
 abbrev pub traced : Traced → Answer TraceFigures
 traced (Traced.Reads r c) = answered (record { reading = r; count = counted c })
 traced (Traced.Refused r) = refusal r

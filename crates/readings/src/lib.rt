@@ -80,7 +80,7 @@ pub fn write_readings(marks: &[u8], nexts: &[u8], t: Shape, domain: usize, area:
     classes::write_all_classes(marks, nexts, t, area);
 }
 
-// Reads the symbols from a state on, up to the first verdict: it is kept, and what follows reads the same.
+// Reads the symbols from a state on, up to the first verdict. A verdict is kept: the symbols behind it change nothing.
 pub fn follow(marks: &[u8], nexts: &[u8], t: Shape, from: usize, symbols: &[u8]) -> Progress
     requires { ⌜ TableIn t marks nexts
         × (from < t .states)

@@ -9,7 +9,7 @@ use Rattle.theory.specs.Series.{Series, sentTrace}
 use Rattle.theory.specs.Extent.{number, missing}
 use Rattle.theory.specs.Distance.{Distance, FirstWitness}
 use Rattle.monitor.specs.Format.{monitorOf}
-use Rattle.monitor.specs.Questions.{judgeAnswer}
+use Rattle.monitor.specs.Questions.{noValues, judgeAnswer}
 
 -- the tables, in bytes: A (F p), B (G p), C (p U q), D (G F p), E (F(p and X p)), G, H
 abbrev pub A : List ℕ
@@ -45,7 +45,7 @@ pub data Fact : Type 0 where
 
 -- the table is accepted
 abbrev pub Accepted : List ℕ → Type 0
-Accepted b = judgeAnswer stateLimit b ≡ answered []
+Accepted b = judgeAnswer stateLimit b ≡ answered noValues
 
 -- where 01 names no reading, the fact is meant under both
 abbrev pub UnderBoth : (ℕ → Type 0) → Type 0

@@ -35,7 +35,8 @@ asks-yes q qs values {given} e = go (q .yes) refl e
     go false p h = absurd (never h)
 
 -- after a first list without a no, the second list decides
-pub asks-passed : {A B : Type 0} (qs more : List Question) (values : A) (given : B) → asks qs given ≡ answered given → asks (qs ++ more) values ≡ asks more values
+pub asks-passed : {A B : Type 0} (qs more : List Question) (values : A) (given : B) → asks qs given ≡ answered given
+    → asks (qs ++ more) values ≡ asks more values
 asks-passed [] more values given e = refl
 asks-passed (q ∷ qs) more values given e = (let y = asks-yes q qs given e in rw (y .0) (asks-passed qs more values given (y .1)))
 
@@ -67,7 +68,8 @@ asks-both (q ∷ qs) more given e =
 pub untouched : {A : Type 0} {a : Answer A} {number place : ℕ} (bytes area : List ℕ) → a ≡ refused number place → area ≡ written a bytes area
 untouched bytes area e = rw e
 
-pub written-over : {A : Type 0} {a : Answer A} {values : A} (bytes area : List ℕ) → a ≡ answered values → bytes ++ drop (length bytes) area ≡ written a bytes area
+pub written-over : {A : Type 0} {a : Answer A} {values : A} (bytes area : List ℕ) → a ≡ answered values
+    → bytes ++ drop (length bytes) area ≡ written a bytes area
 written-over bytes area e = rw e
 
 -- ---- all yes; some yes and then a no

@@ -4,14 +4,14 @@ use mathlib.Core.Bool.{Bool, true, false, cond}
 use mathlib.Core.List.{List, [], _∷_, _++_, append-nil}
 use mathlib.Core.Logic.{_↔_}
 use Prim.Native.Nat.{ℕ, zero, suc, _+_, _≤_, _<_, zero-le}
-use native.Mathlib.Nat.{suc-add, zero-add}
+use native.Mathlib.Nat.{zero-add}
 use native.Mathlib.Omega.{arith}
 use lib.Dec.{eqb}
 use lib.ListN.{length, take, length-append}
 use lib.Seq.{take-at}
-use borrow.Author.Tests.{eqb-true, eqb-false, eq-eqb, ne-eqb}
+use borrow.Author.Tests.{eqb-true, eqb-false}
 use Rattle.theory.specs.Extent.{Extent, number, missing, ShortestLength}
-use Rattle.theory.specs.Automaton.{Automaton, Trace, run}
+use Rattle.theory.specs.Automaton.{Trace, run}
 use Rattle.theory.specs.Monitor.{Monitor, WellFormed, marked, class, reading}
 use Rattle.theory.specs.Count.{Decided, later, countFrom}
 use Rattle.theory.proofs.Reach.{run-in, run-append, trace-left, trace-right}
@@ -89,6 +89,16 @@ module _ (m : Monitor) where
   count-now q [] e = rw e
   count-now q (a ∷ w) e = rw e
 
+  -- two states with one verdict that is true or false read alike
+  pub reads-alike : (d p q : ℕ) → 0 < m .verdict q → m .verdict p ≡ m .verdict q → reading m d p ≡ reading m d q
+  unfolding reading class
+  reads-alike d p q some e = go (m .verdict q) refl some
+    where
+      go : (v : ℕ) → m .verdict q ≡ v → 0 < v → cond (eqb d 3) (m .verdict p) (class m p) ≡ cond (eqb d 3) (m .verdict q) (class m q)
+      go zero f z = absurd (omega arith)
+      go (suc zero) f z = rw (e, f)
+      go (suc (suc v)) f z = rw (e, f)
+
 -- ---- a verdict that fell is kept
 
 module _ {limit : ℕ} {m : Monitor} (h : WellFormed limit m) where
@@ -99,16 +109,6 @@ module _ {limit : ℕ} {m : Monitor} (h : WellFormed limit m) where
   verdict-stays q (a ∷ w) l t p =
       let kept = h .verdict-kept q a l (t .0) p in
       verdict-stays (m .automaton .next q a) w (h .closed .next-in q a l (t .0)) (t .1) (omega (arith, kept, p)) ∙ kept
-
-  -- two states with one verdict that is true or false read alike
-  pub reads-alike : (d p q : ℕ) → 0 < m .verdict q → m .verdict p ≡ m .verdict q → reading m d p ≡ reading m d q
-  unfolding reading class
-  reads-alike d p q some e = go (m .verdict q) refl some
-    where
-      go : (v : ℕ) → m .verdict q ≡ v → 0 < v → cond (eqb d 3) (m .verdict p) (class m p) ≡ cond (eqb d 3) (m .verdict q) (class m q)
-      go zero f z = absurd (omega arith)
-      go (suc zero) f z = rw (e, f)
-      go (suc (suc v)) f z = rw (e, f)
 
   module _ (q : ℕ) (w : List ℕ) (l : q < m .automaton .states) (t : Trace (m .automaton) w) where
     -- the verdict after a beginning that decides is that after the whole trace
@@ -126,7 +126,8 @@ module _ {limit : ℕ} {m : Monitor} (h : WellFormed limit m) where
         forth : (v : ℕ) → m .verdict (run (m .automaton) q w) ≡ v → countFrom m q w ≡ missing → v ≡ 0
         forth zero e never = refl
         forth (suc v) e never =
-            absurd (subst (ShortestLength (Decided m q w)) never (count-exact m q w) w (record { rest = []; begins = append-nil w; decides = omega (arith, e) }))
+            let whole : Decided m q w w = record { rest = []; begins = append-nil w; decides = omega (arith, e) } in
+            absurd (subst (ShortestLength (Decided m q w)) never (count-exact m q w) w whole)
 
         back : (e : Extent) → ShortestLength (Decided m q w) e → m .verdict (run (m .automaton) q w) ≡ 0 → e ≡ missing
         back missing s z = refl

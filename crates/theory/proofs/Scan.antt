@@ -42,9 +42,9 @@ scan-finds {f} {a} {c} {i} p e = sym (first-is f c a i (p .from) (p .upto) (p .f
 pub scan-ends : {f : ℕ → Bool} {a c i : ℕ} → Passed f a c i → a + c ≤ i → i ≡ first f a c
 scan-ends {f} {a} {c} {i} p l = sym (first-is f c a i (p .from) (p .upto) (p .fails) (λ h. absurd (omega arith)))
 
--- none of the numbers below c passes
-pub scan-nothing : (f : ℕ → Bool) (c : ℕ) → any c f ≡ false → c ≡ first f 0 c
-scan-nothing f c e =
+-- where no number below c passes, the first is c
+pub none-first : (f : ℕ → Bool) (c : ℕ) → any c f ≡ false → c ≡ first f 0 c
+none-first f c e =
     scan-ends {i = c} (record { from = zero-le; upto = omega arith; fails = λ j _ l. not-clash (λ t. clash (any-at c f j l t) e) }) (omega arith)
 
 -- whether some number below c passes

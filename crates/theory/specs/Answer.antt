@@ -22,8 +22,8 @@ module _ {A : Type 0} where
   asks [] values = answered values
   asks (q ∷ qs) values = cond (q .yes) (asks qs values) (refused (q .number) (q .place))
 
-  -- "A refusal leaves lent areas untouched"; otherwise the bytes fill the first places, and "the bytes behind keep their
-  -- contents"
+  -- "A refusal leaves lent areas untouched"; otherwise the bytes fill the first places, and "the bytes behind keep
+  -- their contents"
   abbrev pub written : Answer A → List ℕ → List ℕ → List ℕ
   written (refused number place) bytes area = area
   written (answered values) bytes area = bytes ++ drop (length bytes) area

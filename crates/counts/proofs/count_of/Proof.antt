@@ -1,6 +1,5 @@
 -- `count_of` meets its contract.
 use native.Mathlib.Omega.{arith}
-use borrow.Author.Needs.{needs}
 use Rattle.monitor.specs.Opening.{monitorIn}
 use Rattle.readings.proofs.Following.{followed-whole}
 use Rattle.counts.proofs.count_of.Statement.{statement}

@@ -1,16 +1,15 @@
 -- `received_count` meets its contract: the three parts are read one after the other.
 use mathlib.Core.Path.{_≡_, sym, ap, _∙_}
-use Prim.Native.Nat.{ℕ, _+_, _<_}
+use Prim.Native.Nat.{_+_, _<_, _^_}
 use native.Mathlib.Omega.{arith}
 use denote.Ref.{now}
 use lib.ListN.{length, length-take, length-drop}
 use borrow.Author.Needs.{needs}
 use Rattle.monitor.specs.Opening.{monitorIn}
 use Rattle.faults.specs.Steps.{traceOf}
-use Rattle.pairs.specs.Square.{never}
 use Rattle.faults.proofs.AtMostTwo.{count-is, inside-wider}
 use Rattle.readings.proofs.Following.{followed-most}
-use Rattle.counts.proofs.Parts.{rest-is, struck-is, front-passes, rest-passes, struck-passes, parts-count}
+use Rattle.counts.proofs.Parts.{rest-is, delivered-is, front-passes, rest-passes, delivered-passes, parts-count}
 use Rattle.counts.proofs.received_count.Statement.{statement}
 use Rattle.counts.proofs.received_count.Tie as tie
 
@@ -26,7 +25,8 @@ delivered : (c : tie.After-part3)
     ≡ traceOf (c .before .before .before .before .before .before .before .before .before .before .before .args .fault .received)
 delivered c =
     let s = c .before .before .before .before .before .before .before .before .before .before .before in
-    struck-is (s .args .fault .received) (s .pre .1 .ranged .received-in .count-most) (c .before .before .before .before .before .before .write-symbols .ensures)
+    delivered-is (s .args .fault .received) (s .pre .1 .ranged .received-in .count-most)
+    (c .before .before .before .before .before .before .write-symbols .ensures)
     (c .before .before .before .part .ensures)
 
 follow-requires : tie.Need-follow-requires
@@ -39,7 +39,7 @@ follow-requires-2 : tie.Need-follow-requires-2
 follow-requires-2 c κs =
     let s = c .before .before .before .before .before .before .before .before .before .before .before .before in
     let g = monitorIn (s .args .t) (s .args .marks) (s .args .nexts) .automaton in
-    (s .pre .0, c .follow .ensures .inside, struck-passes g (s .args .fault .received) (s .pre .1 .ranged .received-in) (delivered (c .before)))
+    (s .pre .0, c .follow .ensures .inside, delivered-passes g (s .args .fault .received) (s .pre .1 .ranged .received-in) (delivered (c .before)))
 
 follow-requires-3 : tie.Need-follow-requires-3
 follow-requires-3 c κs =
@@ -51,9 +51,8 @@ follow-requires-3 c κs =
           (c .before .before .before .part2 .ensures),
     )
 
--- the symbols read are few
-few : (c : tie.After-follow3)
-    → c .before .before .follow .result .read + c .before .follow2 .result .read + c .follow3 .result .read < never + never + 2
+-- the symbols read are at most two more than the sent ones, so that their number fits
+few : (c : tie.After-follow3) → c .before .before .follow .result .read + c .before .follow2 .result .read + c .follow3 .result .read < 2 ^ 64
 few c =
     let p = c .before .before .before in
     let s = p .before .before .before .before .before .before .before .before .before .before .before in
@@ -65,11 +64,12 @@ few c =
     let two = followed-most m (c .before .follow2 .ensures) in
     let three = followed-most m (c .follow3 .ensures) in
     let front = ap length (p .part3 .ensures) ∙ length-take (a .before) w in
-    let struck = ap length (delivered p) ∙ sym (count-is (a .fault .received) (s .pre .1 .ranged .received-in .count-most)) in
-    let rest = ap length (rest-is w at (p .before .part2 .ensures)) ∙ length-drop at w in
     let most = s .pre .1 .ranged .received-in .count-most in
-    let short = s .pre .1 .short in
-    omega (arith, one, two, three, front, struck, rest, most, short)
+    let struck = ap length (delivered p) ∙ sym (count-is (a .fault .received) most) in
+    let rest = ap length (rest-is w at (p .before .part2 .ensures)) ∙ length-drop at w in
+    let within = s .pre .1 .within in
+    let room = s .good .1 .1 .1 .0 .1 in
+    omega (arith, one, two, three, front, struck, rest, most, within, room)
 
 add-count-at : tie.Need-add-count-at
 add-count-at c = omega (arith, few (c .before .before))
@@ -79,11 +79,9 @@ add-count-at-2 c = omega (arith, few (c .before .before .before))
 
 count-at-requires : tie.Need-count-at-requires
 count-at-requires c κs =
-    omega (
-      arith,
-      c .before .before .before .follow3 .ensures .inside,
-      c .before .before .before .before .before .before .before .before .before .before .before .before .before .before .before .before .before .pre .0 .marks-length,
-    )
+    let f = c .before .before .before in
+    let p = f .before .before .before in
+    omega (arith, f .follow3 .ensures .inside, p .before .before .before .before .before .before .before .before .before .before .before .pre .0 .marks-length)
 
 returns : tie.Need-returns
 returns c =

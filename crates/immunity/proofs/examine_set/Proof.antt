@@ -30,8 +30,9 @@ returns c =
     let s = c .before .before .before .before .before .before .before .before in
     let h = seen (c .before) in
     let i = s .pre .1 .start-in in
+    let m = monitorIn (s .args .t) (s .args .marks) (s .args .nexts) in
     let small = s .pre .1 .rows .states-most in (
-      says-immune h i (λ q. getD (s .args .outputs .now) q 0) (monitorIn (s .args .t) (s .args .marks) (s .args .nexts)) (length (s .args .area .now)) small (omega (arith, c .if1 .taken)),
+      says-immune h i (λ q. getD (s .args .outputs .now) q 0) m (length (s .args .area .now)) small (omega (arith, c .if1 .taken)),
       immune-keeps h i (s .args .area .now) small (omega (arith, c .if1 .taken)),
     )
 

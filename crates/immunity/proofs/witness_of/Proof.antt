@@ -1,11 +1,11 @@
 -- `witness_of` meets its contract.
-use mathlib.Core.Path.{_≡_, refl, sym, _∙_}
+use mathlib.Core.Path.{_≡_, refl}
 use mathlib.Core.Option.{some}
 use denote.Ref.{now}
 use borrow.Author.Needs.{needs}
 use Rattle.theory.specs.Series.{Series, sentTrace}
 use Rattle.immunity.specs.Search.{firstOf}
-use Rattle.immunity.proofs.Counted.{ready-first, made-lent, made-struck, made-figures}
+use Rattle.immunity.proofs.Counted.{ready-first, made-lent, made-within, made-figures}
 use Rattle.immunity.proofs.witness_of.Statement.{statement}
 use Rattle.immunity.proofs.witness_of.Tie as tie
 
@@ -23,7 +23,7 @@ counts-of-requires c κs =
     let s = c .before .before .before .before .before .before .before .before .before .before .before in
     let e = c .before .before .before .before .before .harm-of .ensures in
     let f = ready-first (s .pre .1) in
-    (s .pre .0, rw (lent c (f .0) (f .1)) (made-struck (s .pre .1) (f .1) (e .0 (f .0) (f .1))))
+    (s .pre .0, rw (lent c (f .0) (f .1)) (made-within (s .pre .1) (f .1) (e .0 (f .0) (f .1))))
 
 returns : tie.Need-returns
 returns c =

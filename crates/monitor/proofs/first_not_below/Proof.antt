@@ -5,7 +5,7 @@ use native.Mathlib.Omega.{arith}
 use lib.ListN.{length}
 use borrow.Author.Needs.{needs}
 use borrow.Author.Tests.{not-true, le-leb, lt-leb}
-use Rattle.theory.proofs.Scan.{Passed, scan-begins, scan-goes-on, scan-finds, scan-ends, scan-nothing}
+use Rattle.theory.proofs.Scan.{Passed, scan-begins, scan-goes-on, scan-finds, scan-ends, none-first}
 use Rattle.monitor.specs.Questions.{notBelow}
 use Rattle.monitor.proofs.first_not_below.Statement.{statement}
 use Rattle.monitor.proofs.first_not_below.Tie as tie
@@ -17,7 +17,7 @@ abbrev μ-loop : tie.MeasureT-loop
 μ-loop bytes bound i₀ i = length bytes - i
 
 returns : tie.Need-returns Inv-loop μ-loop
-returns c = scan-nothing _ _ (sym (c .before .some-not-below .ensures) ∙ not-true _ (c .if1 .taken))
+returns c = none-first _ _ (sym (c .before .some-not-below .ensures) ∙ not-true _ (c .if1 .taken))
 
 loop-holds : tie.Need-loop-holds Inv-loop μ-loop
 loop-holds c = scan-begins _ _ _

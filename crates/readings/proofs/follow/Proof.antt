@@ -3,15 +3,14 @@ use Prim.Native.Nat.{_-_}
 use native.Mathlib.Omega.{arith}
 use lib.ListN.{length}
 use borrow.Author.Needs.{needs}
-use Rattle.monitor.specs.Format.{tableOf}
-use Rattle.monitor.specs.Opening.{monitorIn}
+use Rattle.monitor.specs.Opening.{monitorFrom, monitorIn}
 use Rattle.monitor.proofs.Body.{all-below}
 use Rattle.readings.proofs.Following.{Onward, onward-first, onward-turn, onward-stops, onward-ends}
 use Rattle.readings.proofs.follow.Statement.{statement}
 use Rattle.readings.proofs.follow.Tie as tie
 
 abbrev Inv-loop : tie.InvT-loop
-Inv-loop marks nexts t from symbols q₀ i₀ q i = Onward (tableOf (t .states) (t .symbols) (t .start) marks nexts) from symbols q i
+Inv-loop marks nexts t from symbols q₀ i₀ q i = Onward (monitorFrom t marks nexts) from symbols q i
 
 abbrev μ-loop : tie.MeasureT-loop
 μ-loop marks nexts t from symbols q₀ i₀ q i = length symbols - i
