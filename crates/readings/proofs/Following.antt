@@ -12,7 +12,7 @@ use Rattle.theory.specs.Extent.{Extent, number, missing}
 use Rattle.theory.specs.Automaton.{Trace, run}
 use Rattle.theory.specs.Monitor.{Monitor, WellFormed, marked, reading}
 use Rattle.theory.specs.Count.{later, countFrom}
-use Rattle.theory.proofs.Count.{later-none, later-later, count-now, verdict-stays, reads-alike}
+use Rattle.theory.proofs.Count.{later-none, later-later, count-now, verdict-lasts, reads-alike}
 use Rattle.readings.specs.Following.{untilVerdict, Followed}
 use Rattle.readings.specs.declared.Progress.{Progress}
 
@@ -136,7 +136,7 @@ module _ {limit : ℕ} {m : Monitor} (h : WellFormed limit m) (d : ℕ) where
       go false e rest =
           let n = eqb-false (m .verdict q) 0 e in
           let some : 0 < m .verdict q = omega (arith, n) in
-          sym (reads-alike m d (run (m .automaton) q (a ∷ w)) q some (verdict-stays h q (a ∷ w) l t some))
+          sym (reads-alike m d (run (m .automaton) q (a ∷ w)) q some (verdict-lasts h q (a ∷ w) l t some))
 
   pub followed-reads : {q : ℕ} {w : List ℕ} {to : Progress} {r : ℕ} → Followed m q w to → q < m .automaton .states → Trace (m .automaton) w
       → r ≡ reading m d (to .state) → r ≡ reading m d (run (m .automaton) q w)

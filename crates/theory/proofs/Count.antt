@@ -102,13 +102,13 @@ module _ (m : Monitor) where
 -- ---- a verdict that fell is kept
 
 module _ {limit : ℕ} {m : Monitor} (h : WellFormed limit m) where
-  pub verdict-stays : (q : ℕ) (w : List ℕ) → q < m .automaton .states → Trace (m .automaton) w → 0 < m .verdict q
+  pub verdict-lasts : (q : ℕ) (w : List ℕ) → q < m .automaton .states → Trace (m .automaton) w → 0 < m .verdict q
       → m .verdict (run (m .automaton) q w) ≡ m .verdict q
   unfolding run Trace
-  verdict-stays q [] l t p = refl
-  verdict-stays q (a ∷ w) l t p =
+  verdict-lasts q [] l t p = refl
+  verdict-lasts q (a ∷ w) l t p =
       let kept = h .verdict-kept q a l (t .0) p in
-      verdict-stays (m .automaton .next q a) w (h .closed .next-in q a l (t .0)) (t .1) (omega (arith, kept, p)) ∙ kept
+      verdict-lasts (m .automaton .next q a) w (h .closed .next-in q a l (t .0)) (t .1) (omega (arith, kept, p)) ∙ kept
 
   module _ (q : ℕ) (w : List ℕ) (l : q < m .automaton .states) (t : Trace (m .automaton) w) where
     -- the verdict after a beginning that decides is that after the whole trace
@@ -116,7 +116,7 @@ module _ {limit : ℕ} {m : Monitor} (h : WellFormed limit m) where
     decided-kept {v} d =
         let g = m .automaton in
         let whole : Trace g (v ++ d .rest) = rw (d .begins) t in
-        sym (verdict-stays (run g q v) (d .rest) (run-in (h .closed) q v l (trace-left g v (d .rest) whole)) (trace-right g v (d .rest) whole) (d .decides))
+        sym (verdict-lasts (run g q v) (d .rest) (run-in (h .closed) q v l (trace-left g v (d .rest) whole)) (trace-right g v (d .rest) whole) (d .decides))
         ∙ ap (m .verdict) (sym (run-append g q v (d .rest)) ∙ ap (run g q) (d .begins))
 
     -- the count is never exactly if the verdict at the end is not yet
