@@ -1,20 +1,20 @@
 // Answers one question: the question as arguments, the body or the collection on standard input, the answer as one
 // line on standard output.
-mod asked;
-mod messages;
 mod words;
 
-use asked::Asked;
-use asked::Form;
-use asked::Source;
-use asked::Subject;
+use asking::asked;
+use asking::asked::Asked;
+use asking::asked::Form;
+use asking::asked::Source;
+use asking::asked::Subject;
+use asking::messages;
+use asking::messages::Gathered;
 use classes::Classification;
 use collection::Collected;
 use collection::Lookup;
 use immunity::Finding;
 use immunity::WITNESS_ROOM;
 use input::Input;
-use messages::Gathered;
 use output::Output;
 use output::Program;
 

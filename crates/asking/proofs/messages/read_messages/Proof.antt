@@ -4,8 +4,8 @@ use Prim.Native.Nat.{_≤_, _-_}
 use native.Mathlib.Omega.{arith}
 use lib.ListN.{length, length-set}
 use borrow.Author.Needs.{needs}
-use Rattle.ask.proofs.messages.read_messages.Statement.{statement}
-use Rattle.ask.proofs.messages.read_messages.Tie as tie
+use Rattle.asking.proofs.messages.read_messages.Statement.{statement}
+use Rattle.asking.proofs.messages.read_messages.Tie as tie
 
 abbrev Inv-loop : tie.InvT-loop
 Inv-loop area₀ space₀ count first i₀ area space i = (i ≤ length area) × (length area ≡ length area₀) × (length space ≡ length space₀)
