@@ -6,6 +6,8 @@ use lib.Dec.{leb, ltb}
 use lib.ListN.{length}
 use Rattle.arguments.specs.declared.Decimal.{Decimal}
 use Rattle.arguments.specs.declared.Decimal.the-variants.{NotANumber, Number}
+use Rattle.arguments.specs.declared.TwoBytes.{TwoBytes}
+use Rattle.arguments.specs.declared.TwoBytes.the-variants as two
 
 -- the byte is one of the digits 0 to 9
 abbrev pub isDigit : ℕ → Bool
@@ -29,3 +31,8 @@ cap = 1000000000000000000
 -- digits stand for and the cap
 unfoldable pub decimalOf : List ℕ → Decimal
 decimalOf text = cond (areDigits text && ltb 0 (length text)) (Number (min (valueFrom 0 text) cap)) NotANumber
+
+-- the number where it has two bytes at most
+abbrev pub twoBytesOf : Decimal → TwoBytes
+twoBytesOf NotANumber = two.Other
+twoBytesOf (Number n) = cond (ltb n 65536) (two.Number n) two.Other

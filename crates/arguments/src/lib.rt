@@ -1,6 +1,6 @@
 // A program's arguments: decimal numbers of any length, and words.
 ghost use mathlib.Core.Path.{_≡_};
-ghost use Rattle.arguments.specs.Numbers.{isDigit, decimalOf};
+ghost use Rattle.arguments.specs.Numbers.{isDigit, decimalOf, twoBytesOf};
 
 // A greater number is answered as this one: no answer goes by how far above it a number is. Ten times it and a digit
 // more fit a usize.
@@ -12,6 +12,12 @@ pub const ROOM: usize = 131072;
 pub enum Decimal {
     NotANumber,
     Number(usize),
+}
+
+// A number of two bytes.
+pub enum TwoBytes {
+    Other,
+    Number(u16),
 }
 
 fn is_digit(byte: u8) -> bool
@@ -43,11 +49,30 @@ pub fn read_decimal(text: &[u8]) -> Decimal
     Decimal::Number(number)
 }
 
+// The number that a text stands for where it has two bytes at most; a greater one is none, it is never cut.
+fn read_two_bytes(text: &[u8]) -> TwoBytes
+    ensures { λ r. ⌜ r ≡ twoBytesOf (decimalOf (now (text .entry))) ⌝ }
+{
+    let Decimal::Number(number) = read_decimal(text) else {
+        return TwoBytes::Other;
+    };
+    if number < 65536 {
+        return TwoBytes::Number(number as u16);
+    }
+    TwoBytes::Other
+}
+
 // The program's argument i, read into a space that is lent, as a number. One that is missing, or longer than the space,
 // is none.
 pub fn number_at(i: usize, space: &mut [u8]) -> Decimal {
     let length = os::arg(i, space);
     read_decimal(&space[..length])
+}
+
+// The same as a number of two bytes.
+pub fn two_bytes_at(i: usize, space: &mut [u8]) -> TwoBytes {
+    let length = os::arg(i, space);
+    read_two_bytes(&space[..length])
 }
 
 // Whether the program's argument i, read likewise, is this word.

@@ -7,8 +7,10 @@ use asking::asked::Asked;
 use asking::asked::Form;
 use asking::asked::Source;
 use asking::asked::Subject;
+use asking::lists;
 use asking::messages;
 use asking::messages::Gathered;
+use basics::Writing;
 use classes::Classification;
 use collection::Collected;
 use collection::Lookup;
@@ -17,6 +19,10 @@ use immunity::WITNESS_ROOM;
 use input::Input;
 use output::Output;
 use output::Program;
+ghost use Prim.Native.Nat.{_≤_};
+
+// The longest collection of bodies that an input holds: a count, 512 entries and 65,536 bytes.
+const FILE_ROOM: usize = 69634;
 
 // The answer, and the class of each state. So many bytes are lent, but no more than the longest answer takes.
 fn classify(out: Output, body: &[u8], room: usize) -> Output {
@@ -49,6 +55,7 @@ fn examine(out: Output, body: &[u8], set: usize, domain: usize, room: usize) -> 
 fn of_body(out: Output, form: Form, body: &[u8], messages: &[u8]) -> Output {
     match form {
         Form::Judge => printing::judgement(out, monitor::judge(body)),
+        Form::Body => printing::bytes(out.text(b"body"), body),
         Form::Classes { room } => classify(out, body, room),
         Form::Step {
             domain,
@@ -123,6 +130,63 @@ fn answer_form(subject: Subject, form: Form, space: &mut [u8]) {
     }
 }
 
+// The collection of these rule numbers and bodies. So many bytes are lent, but no more than the longest takes.
+fn write(out: Output, rules: &[u16], lengths: &[u16], bodies: &[u8], room: usize) -> Output {
+    let mut area = [0u8; FILE_ROOM];
+    let end = basics::least_of(room, FILE_ROOM);
+    let lent = &mut area[0..end];
+    let answer = writer::write(rules, lengths, bodies, lent);
+    let answered = printing::writing(out, answer);
+    let Writing::Written { length } = answer else {
+        return answered;
+    };
+    printing::bytes(answered.text(b" bytes"), basics::part(lent, 0, length))
+}
+
+// The answer line of a collection to be written. Its bodies are the input.
+fn answer_write(rules: &[u16], lengths: &[u16], room: usize, space: &mut [u8]) {
+    let read = input::read(Program::Ask, space);
+    let out = output::standard(Program::Ask);
+    match read {
+        Input::Whole { length } => {
+            let bodies = basics::part(space, 0, length);
+            write(out, rules, lengths, bodies, room).text(b"\n");
+        }
+        Input::Refused(r) => {
+            printing::refusal(out, r).text(b"\n");
+        }
+        Input::Failed => {}
+    }
+}
+
+// The same for lists of so many numbers, which are the arguments.
+fn answer_lists(room: usize, rules: usize, lengths: usize, space: &mut [u8])
+    requires { ⌜ (rules ≤ 1024)
+        × (lengths ≤ 1024) ⌝ }
+{
+    let mut rule_list = [0u16; lists::LIMIT];
+    let mut length_list = [0u16; lists::LIMIT];
+    let given_rules = &mut rule_list[0..rules];
+    let given_lengths = &mut length_list[0..lengths];
+    if lists::read_both(given_rules, given_lengths, space) {
+        answer_write(given_rules, given_lengths, room, space);
+    } else {
+        words::usage();
+    }
+}
+
+fn answer_written(room: usize, rules: usize, lengths: usize, space: &mut [u8]) {
+    if rules > lists::LIMIT {
+        lists::tell_too_long();
+        return;
+    }
+    if lengths > lists::LIMIT {
+        lists::tell_too_long();
+        return;
+    }
+    answer_lists(room, rules, lengths, space);
+}
+
 // The number of a refusal, which stands before its reason.
 fn numbered(out: Output, number: usize) -> Output {
     if printing::has_reason(number) {
@@ -140,6 +204,11 @@ fn main() {
             printing::reason(out, number).text(b"\n");
         }
         Asked::Form { subject, form } => answer_form(subject, form, &mut space),
+        Asked::Write {
+            room,
+            rules,
+            lengths,
+        } => answer_written(room, rules, lengths, &mut space),
         Asked::Unclear => words::usage(),
     }
 }

@@ -8,7 +8,8 @@ pub fn usage() {
         b"usage: ask judge | classes AREA | step READING STATE MESSAGE | trace READING MESSAGE..",
     );
     output::error_text(b" | trace READING @FILE | fault SET READING AREA | rule RULE FORM..");
-    output::error_text(b" | collection | why NUMBER; ask --help says more\n");
+    output::error_text(b" | body RULE | collection | write AREA RULE.. / LENGTH.. | why NUMBER");
+    output::error_text(b"; ask --help says more\n");
 }
 
 fn forms(out: Output) -> Output {
@@ -31,7 +32,12 @@ fn forms(out: Output) -> Output {
         .text(
             b"  ask rule RULE FORM..             one of these forms, judge to fault, for a rule's body\n",
         )
+        .text(b"  ask body RULE                    the bytes of a rule's body\n")
         .text(b"  ask collection                   accepted and the number of rules, or refused\n")
+        .text(b"Or bodies are, one behind the other:\n")
+        .text(
+            b"  ask write AREA RULE.. / LENGTH.. the bytes of the collection that has these rules and bodies\n",
+        )
         .text(b"Nothing is read:\n")
         .text(b"  ask why NUMBER                   what the number of a refusal stands for\n")
 }
@@ -41,7 +47,9 @@ pub fn help() {
         .text(
             b"\nA reading is 3 (marks) or 6 (classes); a set is the sum of loss 1, corruption 2, repeat 4, swap 8;\n",
         )
-        .text(b"AREA is the number of bytes lent for the answer, and 5000 is always enough.\n")
+        .text(
+            b"AREA is the number of bytes lent for the answer; 5000 is always enough, but 69634 for write.\n",
+        )
         .text(b"A refusal is the word refused, a number and a place.\n\n")
         .text(b"Example: ask rule 20 fault 8 3 3 < samples/sample.collection\n")
         .text(

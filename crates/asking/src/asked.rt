@@ -5,6 +5,9 @@ ghost use Prim.Native.Nat.{_≤_};
 // The byte @, which begins the argument that names a file.
 const FILE_SIGN: usize = 64;
 
+// The first argument behind `write` and its room.
+pub const LISTS: usize = 3;
+
 // What a form is asked of: the body on standard input, the body of a rule of the collection there, or that collection
 // itself, which is only judged.
 pub enum Subject {
@@ -22,6 +25,7 @@ pub enum Source {
 // A question about a body, with its numbers.
 pub enum Form {
     Judge,
+    Body,
     Classes {
         room: usize,
     },
@@ -43,8 +47,18 @@ pub enum Form {
 
 pub enum Asked {
     Help,
-    Why { number: usize },
-    Form { subject: Subject, form: Form },
+    Why {
+        number: usize,
+    },
+    Form {
+        subject: Subject,
+        form: Form,
+    },
+    Write {
+        room: usize,
+        rules: usize,
+        lengths: usize,
+    },
     Unclear,
 }
 
@@ -54,6 +68,8 @@ enum Word {
     Why,
     Rule,
     Collection,
+    Write,
+    Body,
     Judge,
     Classes,
     Step,
@@ -93,6 +109,12 @@ fn word_of(text: &[u8]) -> Word {
     }
     if check::same(text, b"collection") {
         return Word::Collection;
+    }
+    if check::same(text, b"write") {
+        return Word::Write;
+    }
+    if check::same(text, b"body") {
+        return Word::Body;
     }
     form_word(text)
 }
@@ -244,6 +266,49 @@ fn rule_asked(count: usize, space: &mut [u8]) -> Asked {
     form_asked(word, Subject::Rule(rule), 4, count - 4, space)
 }
 
+// The body itself of a rule: argument 2 is the rule.
+fn body_asked(count: usize, space: &mut [u8]) -> Asked {
+    if count != 3 {
+        return Asked::Unclear;
+    }
+    let Decimal::Number(rule) = arguments::number_at(2, space) else {
+        return Asked::Unclear;
+    };
+    let subject = Subject::Rule(rule);
+    let form = Form::Body;
+    Asked::Form { subject, form }
+}
+
+// The first argument from LISTS on that is a slash; where none is, the end of the arguments or LISTS.
+fn slash_at(count: usize, space: &mut [u8]) -> usize
+    ensures { λ r. ⌜ 3 ≤ r ⌝ }
+{
+    let mut i = LISTS;
+    while i < count {
+        if arguments::is_word(i, b"/", space) {
+            return i;
+        }
+        i += 1;
+    }
+    i
+}
+
+// A collection to be written: argument 2 is the room; behind it stand rule numbers, a slash and body lengths.
+fn write_asked(count: usize, space: &mut [u8]) -> Asked {
+    let Decimal::Number(room) = arguments::number_at(2, space) else {
+        return Asked::Unclear;
+    };
+    let slash = slash_at(count, space);
+    if slash >= count {
+        return Asked::Unclear;
+    }
+    Asked::Write {
+        room,
+        rules: slash - LISTS,
+        lengths: count - slash - 1,
+    }
+}
+
 fn why_asked(count: usize, space: &mut [u8]) -> Asked {
     if count != 3 {
         return Asked::Unclear;
@@ -266,6 +331,8 @@ pub fn read(space: &mut [u8]) -> Asked {
         Word::Why => why_asked(count, space),
         Word::Rule => rule_asked(count, space),
         Word::Collection => judge_asked(Subject::Collection, count - 2),
+        Word::Write => write_asked(count, space),
+        Word::Body => body_asked(count, space),
         _ => form_asked(word, Subject::Body, 2, count - 2, space),
     }
 }

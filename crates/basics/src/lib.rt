@@ -1,4 +1,4 @@
-// What all layers use and none of them is about: a refusal, and bytes and parts of a slice.
+// What all layers use and none of them is about: a refusal, a length written, and bytes and parts of a slice.
 ghost use mathlib.Core.Path.{_≡_};
 ghost use Prim.Native.Nat.{_<_, min};
 ghost use lib.ListN.{getD, take, drop};
@@ -7,6 +7,12 @@ ghost use lib.ListN.{getD, take, drop};
 pub struct Refusal {
     pub number: usize,
     pub place: usize,
+}
+
+// What a call answers that writes bytes into an area: how many it wrote, or a refusal.
+pub enum Writing {
+    Written { length: usize },
+    Refused(Refusal),
 }
 
 // The smaller of two numbers.

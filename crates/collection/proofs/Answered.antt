@@ -1,12 +1,12 @@
 -- What the questions of an accepted collection leave.
 use mathlib.Core.Path.{_≡_}
 use mathlib.Core.List.{List, [], _∷_}
-use Prim.Native.Nat.{ℕ}
+use Prim.Native.Nat.{ℕ, _≤_}
 use lib.ListN.{length}
-use borrow.Author.Tests.{eqb-true}
+use borrow.Author.Tests.{eqb-true, eq-eqb, le-leb}
 use Rattle.theory.specs.Answer.{answered, asks}
 use Rattle.theory.proofs.Answer.{asks-yes, asks-both}
-use Rattle.collection.specs.Contents.{countOf, ruleOf, startOfBody, rises, follows, firstNo, question20, question21, question22, question23}
+use Rattle.collection.specs.Contents.{countOf, contentsEnd, entryLimit, ruleOf, startOfBody, rises, follows, firstNo, question20, question21, question22, question23}
 use Rattle.collection.specs.Contents.{question24, question25, collectionQuestions, collectionAnswer}
 
 -- what questions 23, 24 and 25 leave
@@ -34,3 +34,18 @@ module _ (file : List ℕ) (accepted : collectionAnswer file ≡ answered (count
         follow = eqb-true (firstNo (follows file) (countOf file)) (countOf file) (q₄ .0);
         end = eqb-true (length file) (startOfBody file (countOf file)) (q₅ .0);
       }
+
+-- and a collection of which they and the others hold is accepted
+pub all-accepted : (file : List ℕ) → 2 ≤ length file → countOf file ≤ entryLimit → contentsEnd file ≤ length file → Answered file
+    → collectionAnswer file ≡ answered (countOf file ∷ [])
+unfolding collectionAnswer
+all-accepted file two few there a =
+    let c = countOf file in
+    rw (
+      le-leb 2 (length file) two,
+      le-leb c entryLimit few,
+      le-leb (contentsEnd file) (length file) there,
+      eq-eqb (firstNo (rises (ruleOf file)) c) c (a .rise),
+      eq-eqb (firstNo (follows file) c) c (a .follow),
+      eq-eqb (length file) (startOfBody file c) (a .end),
+    )

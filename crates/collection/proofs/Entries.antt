@@ -26,14 +26,16 @@ module _ (file : List ℕ) (i : ℕ) where
   pub entry-missing : {c : ℕ} → c ≡ countOf file → c ≤ i → [] ≡ entryOf file i
   entry-missing {c} e h = (let g : countOf file ≤ i = omega (arith, e, h) in rw (le-ltb i (countOf file) g))
 
-  pub rises-first : i ≡ 0 → true ≡ rises (ruleOf file) i
-  rises-first e = rw (eq-eqb i 0 e)
-
-  pub rises-later : (i ≡ 0 → ⊥) → {a b : ℕ} → a ≡ ruleOf file (i - 1) → b ≡ ruleOf file i → ltb a b ≡ rises (ruleOf file) i
-  rises-later h e f = rw (ne-eqb i 0 h, e, f)
-
   pub starts-first : {c : ℕ} → c ≡ countOf file → i ≡ 0 → 2 + 8 * c ≡ startOfBody file i
   starts-first c e = rw (eq-eqb i 0 e, c)
 
   pub starts-later : (i ≡ 0 → ⊥) → {a b : ℕ} → a ≡ offsetOf file (i - 1) → b ≡ lengthOf file (i - 1) → a + b ≡ startOfBody file i
   starts-later h e f = rw (ne-eqb i 0 h, e, f)
+
+-- of rule numbers, wherever they stand
+module _ (rule : ℕ → ℕ) (i : ℕ) where
+  pub rises-first : i ≡ 0 → true ≡ rises rule i
+  rises-first e = rw (eq-eqb i 0 e)
+
+  pub rises-later : (i ≡ 0 → ⊥) → {a b : ℕ} → a ≡ rule (i - 1) → b ≡ rule i → ltb a b ≡ rises rule i
+  rises-later h e f = rw (ne-eqb i 0 h, e, f)

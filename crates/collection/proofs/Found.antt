@@ -1,19 +1,19 @@
 -- Looking up a rule: the scan through the entries finds it; and in an accepted collection it finds every entry again.
 use mathlib.Core.Path.{_≡_, refl, sym, ap, subst, _∙_}
-use mathlib.Core.Bool.{not, false}
+use mathlib.Core.Bool.{false}
 use mathlib.Core.List.{List, [], _∷_}
 use Prim.Native.Nat.{ℕ, zero, suc, _+_, _-_, _≤_, _<_, zero-le}
 use native.Mathlib.Nat.{zero-add, lt-trans}
 use native.Mathlib.Omega.{arith}
 use lib.Dec.{eqb}
-use borrow.Author.Tests.{eq-eqb, ne-eqb, lt-ltb, le-ltb, ltb-true, not-false}
+use borrow.Author.Tests.{eq-eqb, ne-eqb, lt-ltb, le-ltb, ltb-true}
 use Rattle.theory.specs.Answer.{answered}
-use Rattle.theory.proofs.Below.{first-none}
 use Rattle.theory.proofs.Scan.{Passed, scan-finds, scan-ends}
 use Rattle.collection.proofs.Answered.{all-answered}
 use Rattle.collection.proofs.Entries.{rises-later}
+use Rattle.collection.proofs.Order.{passes-at}
 use Rattle.collection.specs.declared.Lookup.the-variants.{Entry, Absent}
-use Rattle.collection.specs.Contents.{countOf, ruleOf, rises, firstNo, firstWith, entryWith, collectionAnswer}
+use Rattle.collection.specs.Contents.{countOf, ruleOf, rises, firstWith, entryWith, collectionAnswer}
 
 -- the scan has reached entry i
 module _ (file : List ℕ) (rule : ℕ) {count i : ℕ} (e : count ≡ countOf file) (p : Passed (λ j. eqb (ruleOf file j) rule) 0 count i) where
@@ -36,11 +36,10 @@ module _ (file : List ℕ) (accepted : collectionAnswer file ≡ answered (count
   -- each rule number is greater than the one before
   next-rises : (i : ℕ) → i + 1 < countOf file → ruleOf file i < ruleOf file (i + 1)
   next-rises i h =
-      let all : firstNo (rises (ruleOf file)) (countOf file) ≡ 0 + countOf file = all-answered file accepted .rise ∙ sym (zero-add (countOf file)) in
-      let none = first-none (λ j. not (rises (ruleOf file) j)) 0 (countOf file) (i + 1) all zero-le (omega (arith, h)) in
       let e : i + 1 - 1 ≡ i = omega arith in
-      let later = rises-later file (i + 1) (λ (q : _≡_ {A = ℕ} (i + 1) 0). omega arith) (ap (ruleOf file) (sym e)) refl in
-      ltb-true (ruleOf file i) (ruleOf file (i + 1)) (later ∙ not-false (rises (ruleOf file) (i + 1)) none)
+      let later = rises-later (ruleOf file) (i + 1) (λ (q : _≡_ {A = ℕ} (i + 1) 0). omega arith) (ap (ruleOf file) (sym e)) refl in
+      ltb-true (ruleOf file i) (ruleOf file (i + 1))
+      (later ∙ passes-at (rises (ruleOf file)) (countOf file) (all-answered file accepted .rise) (i + 1) h)
 
   rules-rise : (d i : ℕ) → d + i + 1 < countOf file → ruleOf file i < ruleOf file (d + i + 1)
   rules-rise zero i h = rw (zero-add i) (next-rises i (omega (arith, h)))

@@ -55,9 +55,13 @@ startOfBody file i = cond (eqb i 0) (contentsEnd file) (offsetOf file (i - 1) + 
 abbrev pub question20 : List ℕ → Question
 question20 file = record { yes = leb 2 (length file); number = 20; place = 0 }
 
+-- the greatest number of entries
+abbrev pub entryLimit : ℕ
+entryLimit = 512
+
 -- "is c at most 512?"
 abbrev pub question21 : ℕ → Question
-question21 c = record { yes = leb c 512; number = 21; place = 0 }
+question21 c = record { yes = leb c entryLimit; number = 21; place = 0 }
 
 -- "are all entries there?"
 abbrev pub question22 : List ℕ → Question

@@ -8,7 +8,7 @@ ghost use Rattle.collection.specs.Contents.{rises as Contents·rises, fo
 ghost use Rattle.collection.specs.Contents.{firstNo, testOf, collectionAnswer, collected, entryWith};
 
 // The greatest number of entries.
-const ENTRY_LIMIT: usize = 512;
+pub const ENTRY_LIMIT: usize = 512;
 
 // What judging a collection answers: the number of its entries, or a refusal.
 pub enum Collected {

@@ -15,6 +15,7 @@ use Rattle.theory.proofs.Values.{length-values}
 use Rattle.monitor.specs.Format.{statesOf, monitorOf}
 use Rattle.monitor.specs.Questions.{tableQuestions, judgeAnswer, question9, question10, question13}
 use Rattle.collection.specs.Contents.{countOf, collectionQuestions, collectionAnswer}
+use Rattle.writer.specs.Writing.{fileOf, givenQuestions, writeQuestions, writeAnswer}
 use Rattle.classes.specs.Classify.{classList, classifyFigures, classifyAnswer}
 use Rattle.immunity.specs.Findings.{tableFigures, faultAnswer, faultTrace}
 use Rattle.lines.specs.Line.{ruleLine, lineAnswer}
@@ -76,7 +77,7 @@ asks-lent {A} front values bytes area size same = record { untouched = λ number
         absurd (omega arith)
 
 pub demand-one : (limit : ℕ) (body file area : List ℕ) → DemandOne limit body file area
-unfolding judgeAnswer collectionAnswer classifyAnswer faultAnswer lineAnswer
+unfolding judgeAnswer collectionAnswer classifyAnswer faultAnswer lineAnswer writeAnswer
 demand-one limit body file area =
     let m = monitorOf body in
     record {
@@ -84,5 +85,8 @@ demand-one limit body file area =
       collection = asks-judged (collectionQuestions file) (countOf file ∷ []);
       classes = asks-lent (tableQuestions limit body) (classifyFigures m) (classList m) area (statesOf body) (sym (length-values (statesOf body) (class m)));
       faults = λ set d. asks-lent (tableQuestions limit body ++ (question9 set ∷ question10 d ∷ [])) (tableFigures m d set) (faultTrace body set d) area _ refl;
+      writer = λ rules lengths bodies. asks-judged (writeQuestions limit rules lengths bodies (length area)) (length (fileOf rules lengths bodies) ∷ []);
       line = λ rule. asks-lent [] (length (ruleLine limit rule body) ∷ []) (ruleLine limit rule body) area _ refl;
+      written-file = λ rules lengths bodies. asks-lent (givenQuestions limit rules lengths bodies) (length (fileOf rules lengths bodies) ∷ [])
+          (fileOf rules lengths bodies) area _ refl;
     }

@@ -10,6 +10,7 @@ use Rattle.theory.specs.Answer.{Question, Answer, refused, answered, written}
 use Rattle.monitor.specs.Format.{monitorOf}
 use Rattle.monitor.specs.Questions.{tableQuestions, noValues, judgeAnswer}
 use Rattle.collection.specs.Contents.{countOf, collectionQuestions, collectionAnswer}
+use Rattle.writer.specs.Writing.{fileOf, writeQuestions, writeAnswer}
 use Rattle.classes.specs.Classify.{classList, classifyAnswer}
 use Rattle.immunity.specs.Findings.{faultAnswer, faultTrace}
 use Rattle.lines.specs.Line.{ruleLine, lineAnswer}
@@ -49,7 +50,13 @@ pub record DemandOne (limit : ℕ) (body file area : List ℕ) : Type 0 where
   pub table : Judged (tableQuestions limit body) noValues (judgeAnswer limit body)
   -- a collection is asked questions 20 to 25, and answers its count
   pub collection : Judged (collectionQuestions file) (countOf file ∷ []) (collectionAnswer file)
-  -- the calls that are lent an area: classes, the fault question, a line of the listing
+  -- what is handed to the writer is asked 27, 21, 23, 28, each body 1 to 8, and 13, and answers the file's length
+  pub writer : (rules lengths bodies : List ℕ)
+      → Judged (writeQuestions limit rules lengths bodies (length area)) (length (fileOf rules lengths bodies) ∷ [])
+      (writeAnswer limit rules lengths bodies (length area))
+  -- the calls that are lent an area: classes, the fault question, a line of the listing, the writer
   pub classes : Lent (classifyAnswer limit body (length area)) (classList (monitorOf body)) area
   pub faults : (set d : ℕ) → Lent (faultAnswer limit body set d (length area)) (faultTrace body set d) area
   pub line : (rule : ℕ) → Lent (lineAnswer limit rule body (length area)) (ruleLine limit rule body) area
+  pub written-file : (rules lengths bodies : List ℕ)
+      → Lent (writeAnswer limit rules lengths bodies (length area)) (fileOf rules lengths bodies) area

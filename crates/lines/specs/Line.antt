@@ -11,13 +11,11 @@ use Rattle.theory.specs.Monitor.{Monitor, monitorability}
 use Rattle.theory.specs.Faults.{kinds}
 use Rattle.theory.specs.Extent.{Extent, number, missing}
 use Rattle.theory.specs.Computed.{distance}
-use Rattle.basics.specs.Refusals.{refusal}
 use Rattle.monitor.specs.Format.{monitorOf}
 use Rattle.monitor.specs.Questions.{judgeAnswer, question13}
 use Rattle.immunity.specs.declared.Column.{Column}
 use Rattle.immunity.specs.declared.Finding.{Finding}
 use Rattle.lines.specs.Text.{ascii, decimal}
-use Rattle.lines.specs.declared.Line.{Line}
 
 -- fields with a space before each, and what stands behind them
 abbrev pub spaced : List (List ℕ) → List ℕ → List ℕ
@@ -65,11 +63,6 @@ ruleLine limit rule body = judgedLine rule (judgeAnswer limit body) (monitorOf b
 unfoldable pub lineAnswer : ℕ → ℕ → List ℕ → ℕ → Answer (List ℕ)
 lineAnswer limit rule body room =
     asks (question13 (length (ruleLine limit rule body)) room ∷ []) (length (ruleLine limit rule body) ∷ [])
-
--- 13 and its place, or the length of the line
-abbrev pub lined : Line → Answer (List ℕ)
-lined (Line.Written l) = answered (l ∷ [])
-lined (Line.Refused r) = refusal r
 
 -- ---- layers
 

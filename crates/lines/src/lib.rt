@@ -1,5 +1,6 @@
 // One line of the listing: from a rule number and a body to the bytes of a line in the area lent.
 use basics::Refusal;
+use basics::Writing;
 use faults::KINDS;
 use immunity::Column;
 use immunity::Finding;
@@ -12,18 +13,13 @@ ghost use Rattle.theory.specs.Answer.{written};
 ghost use Rattle.theory.specs.Monitor.{stateLimit};
 ghost use Rattle.lines.specs.Text.{ascii, decimal};
 ghost use Rattle.theory.specs.Faults.{kinds};
+ghost use Rattle.basics.specs.Refusals.{lengthWritten};
 ghost use Rattle.immunity.specs.declared.Witness.{Witness};
 ghost use Rattle.lines.specs.Line.{spaced, monitorabilityText, findingText, columnTexts, shownLine, refusalLine};
-ghost use Rattle.lines.specs.Line.{ruleLine, lineAnswer, lined, lineRoom, Put};
+ghost use Rattle.lines.specs.Line.{ruleLine, lineAnswer, lineRoom, Put};
 
 // `lineRoom` in specs/Line.antt.
 const LINE_ROOM: usize = 256;
-
-// A line's length, or 13.
-pub enum Line {
-    Written { length: usize },
-    Refused(Refusal),
-}
 
 // Puts bytes behind the first `at` bytes of the buffer, and answers where they end.
 fn put(bytes: &[u8], buffer: &mut [u8], at: usize) -> usize
@@ -169,8 +165,8 @@ fn put_rule(rule: usize, body: &[u8], buffer: &mut [u8]) -> usize
 }
 
 // Writes the line of a rule and its body into the area.
-pub fn write_line(rule: usize, body: &[u8], area: &mut [u8]) -> Line
-    ensures figures { λ r. ⌜ lined r
+pub fn write_line(rule: usize, body: &[u8], area: &mut [u8]) -> Writing
+    ensures figures { λ r. ⌜ lengthWritten r
         ≡ lineAnswer stateLimit rule (now (body .entry)) (length (now (area .entry))) ⌝ }
     ensures area { λ _. ⌜ now (area .exit)
         ≡ written (lineAnswer stateLimit rule (now (body .entry)) (length (now (area .entry))))
@@ -179,11 +175,11 @@ pub fn write_line(rule: usize, body: &[u8], area: &mut [u8]) -> Line
     let mut buffer = [0u8; LINE_ROOM];
     let length = put_rule(rule, body, &mut buffer);
     if area.len() < length {
-        return Line::Refused(Refusal {
+        return Writing::Refused(Refusal {
             number: 13,
             place: 0,
         });
     }
     bytes::copy(&buffer[..length], area);
-    Line::Written { length }
+    Writing::Written { length }
 }

@@ -1,15 +1,15 @@
 // Reads a collection from standard input and prints the listing: a header and a line for each entry.
 use basics::Refusal;
+use basics::Writing;
 use collection::Collected;
 use input::Input;
-use lines::Line;
 use output::Output;
 use output::Program;
 
 // The line of a rule; no line is longer than the area.
 fn print_line(out: Output, rule: usize, body: &[u8]) -> Output {
     let mut area = [0u8; 256];
-    let Line::Written { length } = lines::write_line(rule, body, &mut area) else {
+    let Writing::Written { length } = lines::write_line(rule, body, &mut area) else {
         return out;
     };
     out.text(basics::part(&area, 0, length))

@@ -5,12 +5,15 @@ pub enum Program {
     Listing,
     Card,
     Ask,
+    Pack,
     Test,
 }
 
-// Standard output. After a write that failed nothing more is written; standard error has told it.
+// Where words go: standard output, or standard error. After a write that failed nothing more is written; standard
+// error has told it.
 pub struct Output {
     program: Program,
+    descriptor: i32,
     failed: bool,
 }
 
@@ -24,6 +27,7 @@ fn error_name(program: Program) {
         Program::Listing => error_text(b"listing: "),
         Program::Card => error_text(b"card: "),
         Program::Ask => error_text(b"ask: "),
+        Program::Pack => error_text(b"pack: "),
         Program::Test => error_text(b"test: "),
     }
 }
@@ -54,6 +58,17 @@ pub fn complaint_of(program: Program, name: &[u8], what: &[u8]) {
 pub fn standard(program: Program) -> Output {
     Output {
         program,
+        descriptor: libc::STDOUT_FILENO,
+        failed: false,
+    }
+}
+
+// A line on standard error that is written word by word. It begins with the program.
+pub fn error(program: Program) -> Output {
+    error_name(program);
+    Output {
+        program,
+        descriptor: libc::STDERR_FILENO,
         failed: false,
     }
 }
@@ -64,13 +79,15 @@ impl Output {
         if self.failed {
             return self;
         }
-        if io::write_all(libc::STDOUT_FILENO, words) {
+        let program = self.program;
+        let descriptor = self.descriptor;
+        if io::write_all(descriptor, words) {
             return self;
         }
-        let program = self.program;
         failure(program, b"standard output");
         Output {
             program,
+            descriptor,
             failed: true,
         }
     }

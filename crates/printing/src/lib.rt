@@ -1,6 +1,7 @@
 // The words of answers and refusals. Each function writes to the output and hands it back. No contract can say what is
 // written; the output of programs is compared with a stored one.
 use basics::Refusal;
+use basics::Writing;
 use classes::Classification;
 use collection::Collected;
 use faults::FaultSet;
@@ -44,7 +45,7 @@ fn body_reason(out: Output, number: usize) -> Output {
 pub fn has_reason(number: usize) -> bool {
     match number {
         1..=13 => true,
-        20..=26 => true,
+        20..=28 => true,
         _ => false,
     }
 }
@@ -59,6 +60,8 @@ pub fn reason(out: Output, number: usize) -> Output {
         24 => out.text(b"a body that does not start right behind what comes before it"),
         25 => out.text(b"the file does not end with its last body"),
         26 => out.text(b"longer than 65,536 bytes"),
+        27 => out.text(b"not as many body lengths as rule numbers"),
+        28 => out.text(b"the body lengths do not add up to the bodies"),
         _ => body_reason(out, number),
     }
 }
@@ -111,6 +114,13 @@ pub fn collected(out: Output, answer: Collected) -> Output {
     match answer {
         Collected::Accepted { count } => out.text(b"accepted ").number(count),
         Collected::Refused(r) => refusal(out, r),
+    }
+}
+
+pub fn writing(out: Output, answer: Writing) -> Output {
+    match answer {
+        Writing::Written { length } => out.text(b"written ").number(length),
+        Writing::Refused(r) => refusal(out, r),
     }
 }
 

@@ -1,7 +1,7 @@
 // Answers questions from standard input, a line each, for a test outside that has answers of its own to compare.
 // A question is a frame: the length of what follows in two bytes, least byte first; the call; three numbers, a byte
 // each; and the call's bytes.
-use lines::Line;
+use basics::Writing;
 use output::Output;
 use output::Program;
 ghost use Prim.Native.Nat.{_+_, _≤_, _<_};
@@ -43,13 +43,48 @@ fn examine(out: Output, set: usize, domain: usize, room: usize, body: &[u8]) -> 
 // Call 5: the card, as the listing's line of rule 0 has it between the rule number and the line feed.
 fn card(out: Output, body: &[u8]) -> Output {
     let mut area = [0u8; 256];
-    let Line::Written { length } = lines::write_line(0, body, &mut area) else {
+    let Writing::Written { length } = lines::write_line(0, body, &mut area) else {
         return out;
     };
     if length >= 3 {
         return out.text(basics::part(&area, 2, length - 3));
     }
     out
+}
+
+// A number of two bytes, least byte first.
+fn two_bytes(bytes: &[u8]) -> u16 {
+    (basics::byte_at(bytes, 0) + 256 * basics::byte_at(bytes, 1)) as u16
+}
+
+fn read_list(list: &mut [u16], bytes: &[u8])
+    requires { ⌜ length (now list) < 256 ⌝ }
+{
+    let mut i = 0;
+    while i < list.len() {
+        list[i] = two_bytes(basics::part(bytes, 2 * i, 2));
+        i += 1;
+    }
+}
+
+// Call 6: the numbers are the lengths of the two lists and of the area, which is full of 255 before the call. Rule
+// numbers, body lengths and bodies stand one behind the other.
+fn write(out: Output, rules: usize, lengths: usize, room: usize, bytes: &[u8]) -> Output
+    requires { ⌜ (rules < 256)
+        × (lengths < 256)
+        × (room < 256) ⌝ }
+{
+    let mut rule_list = [0u16; 256];
+    let mut length_list = [0u16; 256];
+    let mut area = [255u8; 256];
+    let given_rules = &mut rule_list[0..rules];
+    let given_lengths = &mut length_list[0..lengths];
+    let lent = &mut area[0..room];
+    read_list(given_rules, bytes);
+    read_list(given_lengths, basics::part(bytes, 2 * rules, 2 * lengths));
+    let bodies = basics::part(bytes, 2 * rules + 2 * lengths, bytes.len());
+    let answer = writer::write(given_rules, given_lengths, bodies, lent);
+    printing::bytes(printing::writing(out, answer), lent)
 }
 
 // The answer to a frame that has its numbers.
@@ -63,6 +98,7 @@ fn answered(out: Output, frame: &[u8], bytes: &[u8]) -> Output {
         2 => printing::stepped(out, readings::step(bytes, a, b, c)),
         4 => examine(out, a, b, c, bytes),
         5 => card(out, bytes),
+        6 => write(out, a, b, c, bytes),
         _ => trace(out, a, b, bytes),
     }
 }

@@ -1,12 +1,14 @@
 -- The laws of `In`, `find`, `each` and `Rising`.
 use mathlib.Core.Path.{_≡_, refl, sym, ap, _∙_, subst}
 use mathlib.Core.Bool.{Bool, true, false, cond}
-use mathlib.Core.List.{List, [], _∷_, _++_, map, flatMap}
+use mathlib.Core.List.{List, [], _∷_, _++_, map, flatMap, append-assoc, append-nil}
 use mathlib.Core.Logic.{_⊎_, inl, inr, ⊎-elim}
 use mathlib.Core.Option.{Option, none, some, Option·none-ne-some, Option·some-injective}
-use Prim.Native.Nat.{ℕ, zero, suc, _≤_, _<_}
+use Prim.Native.Nat.{ℕ, zero, suc, _+_, _≤_, _<_}
 use native.Mathlib.Nat.{le-refl, le-of-suc-le-suc, not-suc-le-zero, eq-or-lt-of-le}
 use native.Mathlib.Omega.{arith}
+use lib.ListN.{length, take, drop, length-append}
+use lib.Seq.{take-append-seam, drop-at}
 use Rattle.theory.specs.Lists.{In, find, each, Rising}
 use Rattle.theory.proofs.Below.{clash}
 
@@ -37,10 +39,38 @@ module _ {A : Type 0} where
     pub below : index < n
     pub here : In x (f index)
 
-  pub each-same : (n : ℕ) (f g : ℕ → List A) → ((i : ℕ) → f i ≡ g i) → each n f ≡ each n g
+  pub each-same : (n : ℕ) (f g : ℕ → List A) → ((i : ℕ) → i < n → f i ≡ g i) → each n f ≡ each n g
   unfolding each
   each-same zero f g h = refl
-  each-same (suc n) f g h = rw (each-same n f g h, h n)
+  each-same (suc n) f g h = rw (each-same n f g (λ i l. h i (omega (arith, l))), h n (le-refl (suc n)))
+
+  -- list i stands behind those of 0, 1, .. i - 1
+  pub each-at : (i n : ℕ) (f : ℕ → List A) → i < n → (rest : List A) × (each n f ≡ each i f ++ (f i ++ rest))
+  unfolding each
+  each-at i zero f l = absurd (not-suc-le-zero l)
+  each-at i (suc n) f l =
+      ⊎-elim
+      (λ (q : i ≡ n). ([], subst (λ (j : ℕ). each n f ++ f n ≡ each j f ++ (f j ++ [])) (sym q) (ap (λ (r : List A). each n f ++ r) (sym (append-nil (f n))))))
+      (λ s. (let r = each-at i n f s in (
+        r .0 ++ f n,
+        ap (λ (xs : List A). xs ++ f n) (r .1)
+            ∙ append-assoc (each i f) (f i ++ r .0) (f n)
+            ∙ ap (λ (xs : List A). each i f ++ xs) (append-assoc (f i) (r .0) (f n)),
+      )))
+      (eq-or-lt-of-le (le-of-suc-le-suc l))
+
+  -- and is found there, whatever stands before and behind them all
+  pub each-cut : (i n : ℕ) (f : ℕ → List A) → i < n → (front behind : List A) (at : ℕ) → length front + length (each i f) ≡ at
+      → take (length (f i)) (drop at (front ++ (each n f ++ behind))) ≡ f i
+  each-cut i n f l front behind at e =
+      let r = each-at i n f l in
+      let long : length (front ++ each i f) ≡ at = length-append front (each i f) ∙ e in
+      ap (λ (xs : List A). take (length (f i)) (drop at (front ++ (xs ++ behind)))) (r .1)
+      ∙ ap (λ (xs : List A). take (length (f i)) (drop at (front ++ xs)))
+      (append-assoc (each i f) (f i ++ r .0) behind ∙ ap (λ (xs : List A). each i f ++ xs) (append-assoc (f i) (r .0) behind))
+      ∙ ap (λ (xs : List A). take (length (f i)) (drop at xs)) (sym (append-assoc front (each i f) (f i ++ (r .0 ++ behind))))
+      ∙ ap (take (length (f i))) (drop-at (front ++ each i f) (f i ++ (r .0 ++ behind)) at long)
+      ∙ take-append-seam (f i) (r .0 ++ behind)
 
   pub each-in : (x : A) (n : ℕ) (f : ℕ → List A) (i : ℕ) → i < n → In x (f i) → In x (each n f)
   unfolding each

@@ -1,7 +1,7 @@
 // Worked examples of the fault question and the card, one line each. The stored output has what they must be.
+use basics::Writing;
 use faults::FaultSet;
 use faults::Kind;
-use lines::Line;
 use output::Output;
 use output::Program;
 
@@ -34,7 +34,7 @@ fn both(name: &[u8], body: &[u8], set: usize) {
 // The card, as the listing's line of rule 0 has it behind the rule number.
 fn card(name: &[u8], body: &[u8]) {
     let mut area = [0u8; 256];
-    let Line::Written { length } = lines::write_line(0, body, &mut area) else {
+    let Writing::Written { length } = lines::write_line(0, body, &mut area) else {
         return;
     };
     let line = basics::part(basics::part(&area, 0, length), 2, 256);
