@@ -6,7 +6,7 @@ FILE ?= samples/sample.collection
 RULE ?=
 
 # The programs for users, and the folder under which `make install` puts them, in bin.
-PROGRAMS := listing card ask
+PROGRAMS := listing card ask pack
 PREFIX ?= /usr/local
 BIN = $(DESTDIR)$(PREFIX)/bin
 

@@ -1,7 +1,8 @@
 #!/usr/bin/env python3
 """Writes the sample collection: rules of a playout system, each here because it shows something; and a sample trace.
 
-    python3 samples/make.py            writes samples/sample.collection, the same bytes as the input of the program `card`, and
+    python3 samples/make.py            writes samples/sample.collection, the same bytes as the input of the program `card`;
+                                       samples/sound.collection, which is the sample without its rule at fault; and
                                        samples/hour.trace
     python3 samples/make.py --check    says whether these files are what this script writes
 
@@ -13,6 +14,7 @@ import sys
 
 ROOT = pathlib.Path(__file__).resolve().parent.parent
 COLLECTIONS = [ROOT / "samples/sample.collection", ROOT / "crates/card/stdin"]
+SOUND = ROOT / "samples/sound.collection"
 TRACE = ROOT / "samples/hour.trace"
 NOT_YET, TRUE, FALSE = 0, 1, 2
 
@@ -135,6 +137,7 @@ RULES[70] = table("quiet alarm", {
     "waiting": (NOT_YET, "waiting raised"),
     "raised": (TRUE, "waiting raised"),
 })
+AT_FAULT = [70]
 
 
 def collection(rules):
@@ -153,12 +156,14 @@ def hour():
 
 
 def main():
-    made = {**dict.fromkeys(COLLECTIONS, collection(RULES)), TRACE: hour()}
+    sound = collection({number: body for number, body in RULES.items() if number not in AT_FAULT})
+    made = {**dict.fromkeys(COLLECTIONS, collection(RULES)), SOUND: sound, TRACE: hour()}
     if sys.argv[1:] == ["--check"]:
         stale = [str(file.relative_to(ROOT)) for file, data in made.items() if not file.exists() or file.read_bytes() != data]
         if stale:
             sys.exit("not what samples/make.py writes: " + ", ".join(stale))
-        print(f"samples: {len(RULES)} rules, {len(collection(RULES))} bytes, and a trace of {len(hour())} messages, as written")
+        print(f"samples: {len(RULES)} rules, {len(collection(RULES))} bytes, {len(sound)} of them in accepted rules, and a trace "
+              f"of {len(hour())} messages, as written")
     elif sys.argv[1:]:
         sys.exit("usage: python3 samples/make.py [--check]")
     else:

@@ -4,7 +4,7 @@ import itertools
 import random
 
 import reference
-from reference import CORRUPTION, LOSS, REPEAT, SWAP, Refused, classes, fault, judge, listing, step, trace
+from reference import CORRUPTION, LOSS, REPEAT, SWAP, Refused, classes, fault, judge, listing, step, trace, write_collection
 from tables import (A, B, C, D, E, G, H, LOWER_TRACE_HARMED, LOWER_TRACE_SWAPPED, THREE_IN_A_ROW, UGLY_FURTHER_ON,
                     UGLY_UNREACHABLE, UNREACHABLE_HARM, collection, random_table)
 
@@ -71,6 +71,26 @@ def edges():
     check(answer(fault, A, 99, 5, 9), (9, 0), "9 before 10")
     check(answer(trace, A, 5, [9]), (10, 0), "10 before 12")
     check(answer(trace, A, 3, [0, 1, 2, 3]), (12, 2), "place of 12")
+
+
+def writer():
+    """The contents that the specification writes out, and the order of the writer's questions."""
+    contents = bytes.fromhex("03 00 1A 00 00 00 09 00 01 00 23 00 00 00 0C 00 02 00 2F 00 00 00 09 00 03 00")
+    three, lengths = A + E + A, [9, 12, 9]
+    check(write_collection([1, 2, 3], lengths, three, 56), contents + three, "the three tables written")
+    check(answer(write_collection, [1, 2, 3], lengths, three, 55), (13, 0), "an area one byte short")
+    check(write_collection([], [], b"", 2), b"\0\0", "empty lists")
+    marked = bytearray(three)
+    marked[21 + 4] = 3
+    check(answer(write_collection, [1, 2, 3], lengths, bytes(marked), 0), (6, 2), "A with second mark 3 as entry 2")
+    for rules, sizes, bodies, wanted in (
+            (range(513), [0] * 512, b"", (27, 0)), (range(513), [0] * 513, b"", (21, 0)), ([5, 5], [9, 9], A, (23, 1)),
+            ([5, 6], [9, 9], A, (28, 0)), ([5, 6], [0, 3], bytes(3), (1, 0)), ([5, 6], [9, 3], A[:-1] + b"\0" + bytes(3), (8, 0)),
+            ([5, 6], [9, 3], A + bytes(3), (2, 1))):
+        check(answer(write_collection, list(rules), sizes, bodies, 0), wanted, f"written: {wanted}")
+    for file in (write_collection([1, 2, 3], lengths, three, 56), write_collection([], [], b"", 2)):
+        read = reference.read_collection(file)
+        check(collection(read), file, "written, read and written again")
 
 
 def examples():
@@ -191,6 +211,7 @@ if __name__ == "__main__":
     starred_facts()
     edges()
     examples()
+    writer()
     counts()
     collections()
     enumeration()

@@ -1,7 +1,8 @@
 #!/usr/bin/env python3
-"""Compares the answers of the program `probe` with a model: judging, classes, steps, traces, and what the fault question refuses."""
+"""Compares the answers of the program `probe` with a model: judging, classes, steps, traces, what the fault question refuses, and the writer."""
 import itertools
 import random
+import struct
 
 from model import SAMPLES, compare, count, judge, listed, monitorability, reach, reading, refusal, small_tables, state_class, successors
 
@@ -50,6 +51,36 @@ def fault_refusal(b, faults, d):
     return refusal(no or (13, 0))
 
 
+def write_refusal(rules, lengths, bodies, room):
+    """The refusal (number, place) of a collection to be written, or None."""
+    if len(rules) != len(lengths):
+        return 27, 0
+    if len(rules) > 512:
+        return 21, 0
+    falls = [i for i in range(1, len(rules)) if rules[i] <= rules[i - 1]]
+    if falls:
+        return 23, falls[0]
+    ends = list(itertools.accumulate(lengths, initial=0))
+    if ends[-1] != len(bodies):
+        return 28, 0
+    judged = [(judge(bodies[start:end]), i) for i, (start, end) in enumerate(zip(ends, ends[1:]))]
+    wrong = [(no[0], i) for no, i in judged if no]
+    if wrong:
+        return wrong[0]
+    return (13, 0) if room < 2 + 8 * len(rules) + len(bodies) else None
+
+
+def write(rules, lengths, bodies, room):
+    """The answer, and then the whole area, in which every byte is 255 before."""
+    no = write_refusal(rules, lengths, bodies, room)
+    if no:
+        return refusal(no) + listed([255] * room)
+    starts = itertools.accumulate(lengths, initial=2 + 8 * len(rules))
+    entries = [struct.pack("<IHH", *entry) for entry in zip(starts, lengths, rules)]
+    file = list(struct.pack("<H", len(rules)) + b"".join(entries)) + bodies
+    return f"written {len(file)}" + listed(file + [255] * (room - len(file)))
+
+
 # ---- the questions
 
 
@@ -76,6 +107,11 @@ def ask_refused(b, faults, d, room):
 
 def ask_card_refused(b):
     return [5, 0, 0, 0] + b, refusal(judge(b))
+
+
+def ask_write(rules, lengths, bodies, room):
+    numbers = [byte for number in [*rules, *lengths] for byte in divmod(number, 256)[::-1]]
+    return [6, len(rules), len(lengths), room, *numbers, *bodies], write(rules, lengths, bodies, room)
 
 
 def random_table(r):
@@ -159,5 +195,39 @@ def fallen_questions():
     assert kinds == {"never", "start", "last", "early"}, kinds
 
 
-total = compare(itertools.chain(small_questions(), damaged_questions(), refused_questions(), random_questions(), fallen_questions()))
+def written_questions():
+    """Lists and bodies that are right, and with one thing or several wrong; the area from empty to longer than the file."""
+    r, answers = random.Random(22), set()
+    small = small_tables()
+    for _ in range(3000):
+        bodies = [r.choice(small + SAMPLES) for _ in range(r.choice((0, 1, 2, 2, 3, 4, 5)))]
+        rules = sorted(r.sample(range(r.choice((8, 300, 65536))), len(bodies)))
+        lengths = [len(b) for b in bodies]
+        for wrong in r.sample(("rules", "lengths", "rise", "sum", "body", "cut"), r.choice((0, 0, 1, 1, 2, 3))):
+            i = r.randrange(len(rules)) if rules else 0
+            if wrong == "rules":
+                rules = rules + [65535]
+            elif wrong == "lengths":
+                lengths = lengths[:-1]
+            elif wrong == "rise" and i:
+                rules[i] = r.choice((rules[i - 1], 0))
+            elif wrong == "sum" and i < len(lengths):
+                lengths[i] = max(0, lengths[i] + r.choice((-1, 1)))
+            elif wrong == "body" and i < len(bodies) and bodies[i]:
+                place = r.randrange(len(bodies[i]))
+                bodies[i] = [*bodies[i][:place], r.choice((0, 1, 3, 65)), *bodies[i][place + 1:]]
+            elif wrong == "cut" and i < min(len(bodies), len(lengths)):
+                bodies[i] = bodies[i][:r.randrange(len(bodies[i]) + 1)]
+                lengths[i] = len(bodies[i])
+        joined = [x for b in bodies for x in b]
+        size = 2 + 8 * len(rules) + len(joined)
+        for room in sorted({0, max(0, size - 1), size, size + 1, size + 9}):
+            question = ask_write(rules, lengths, joined, min(room, 255))
+            answers.add(question[1].split()[0] if question[1][0] == "w" else question[1].split()[1])
+            yield question
+    assert answers >= {"written", "27", "23", "28", "13", *"12345678"}, answers
+
+
+total = compare(itertools.chain(small_questions(), damaged_questions(), refused_questions(), random_questions(), fallen_questions(),
+                                written_questions()))
 print(f"compare.py: {total} answers compared with the model, all equal")

@@ -14,7 +14,7 @@ import tempfile
 import termios
 import tty
 
-from inputs import ROOM, stored
+from inputs import ROOM, kept, stored
 from tables import E, collection, in_a_row, late_repeat, table
 
 PROGRAMS = sys.argv[1] if len(sys.argv) > 1 else os.path.join("target", "bin")
@@ -22,14 +22,20 @@ with open(os.path.join("samples", "sample.collection"), "rb") as sample:
     SAMPLE = sample.read()
 LARGE = collection([(1, table(*late_repeat(64, 16))), (2, table(*in_a_row(64, 16)))] + [(i, E) for i in range(3, 513)])
 
-# A call of each program, and of `ask` one that reads no input and one that reads a trace.
+# The bodies of a collection to be written, one behind the other, and with files of their own.
+WRITE = ["ask", "write", "100", "1", "2", "/", str(len(E)), str(len(E))]
+PACK = ["pack", "1", kept("first", E), "2", kept("second", E)]
+
+# A call of each program, and of `ask` one that reads no input, one that reads a trace and one that writes.
 CALLS = [(["listing"], SAMPLE), (["card"], SAMPLE), (["card", "20", "21"], SAMPLE), (["ask", "judge"], E),
          (["ask", "rule", "20", "fault", "8", "3", "3"], SAMPLE), (["ask", "trace", "3", "1", "1"], E),
          (["ask", "trace", "3", stored("hour", [0] * 262142 + [1, 1])], E),
-         (["ask", "why", "8"], b""), (["listing", "--help"], b""), (["card", "--help"], b""), (["ask", "--help"], b"")]
+         (["ask", "why", "8"], b""), (["listing", "--help"], b""), (["card", "--help"], b""), (["ask", "--help"], b""),
+         (WRITE, E + E), (PACK, b""), (["pack", "--help"], b"")]
 
-# The greatest stack, in KiB, that a call may need: for `ask trace` the room for 262,144 messages comes on top.
-STACK, TRACE_STACK = 256, 512
+# The greatest stack, in KiB, that a call may need: for `ask trace` and `ask write` the room for 262,144 bytes comes on top,
+# and `pack` has the bodies and the collection beside each other.
+STACK, WIDE_STACK = 256, 512
 
 
 def run(words, data, limits=None, **streams):
@@ -126,14 +132,29 @@ def unreadable_file():
             check("a file that cannot be read", words, (out, err, left_at), (b"", f"ask: {reason}\n", 0))
 
 
+def unreadable_body():
+    """The same for the file of a body, at the first place and at the second."""
+    longer = kept("longer body", bytes(65536))
+    failing = [("tests/none", "No such file or directory"), ("tests", "Is a directory"), ("/proc/self/mem", "Input/output error"),
+               (longer, "the bodies up to this one have more than 65535 bytes")]
+    for name, reason in failing:
+        for words in (["pack", "1", name, *PACK[3:]], [*PACK[:3], "2", name]):
+            _, out, err = run(words, b"")
+            check("a body that cannot be read", words, (out, err), (b"", f"pack: {name}: {reason}\n"))
+
+
 def small_stack():
     """The same answers with a small stack as with any. The environment, which it holds too, is empty."""
     calls = CALLS + [(["listing"], LARGE), (["card"], LARGE), (["card", "x"], SAMPLE), (["ask"], E),
                      (["ask", "rule", "1", "fault", "4", "6", str(ROOM)], LARGE), (["ask", "collection"], LARGE),
                      (["ask", "rule", "512", "trace", "6", stored("longest", [0] * 262144)], LARGE),
+                     (["ask", "body", "1"], LARGE), (["ask", "write", "9" * 99, *["1"] * 513, "/", *["0"] * 512], LARGE),
+                     (["ask", "write", "100000", *map(str, range(512)), "/", *["12"] * 512], E * 512),
+                     (["pack", *[word for i in range(512) for word in (str(i), PACK[2])]], b""),
+                     (["pack", *[word for i in range(513) for word in (str(i), PACK[2])]], b""),
                      (["ask", "classes", "9" * 9999], E), (["ask", "rule", "512", "trace", "3"] + ["1"] * 999, LARGE)]
     for words, data in calls:
-        kib = TRACE_STACK if "trace" in words else STACK
+        kib = WIDE_STACK if words[0] == "pack" or {"trace", "write"} & set(words) else STACK
 
         def limits():
             resource.setrlimit(resource.RLIMIT_STACK, (kib * 1024, kib * 1024))
@@ -170,6 +191,7 @@ closed_pipe(False)
 closed_output()
 unreadable_input()
 unreadable_file()
+unreadable_body()
 terminal()
 small_stack()
-print(f"failures: no room, closed pipes, unreadable input and files, a terminal, and stacks of {STACK} and {TRACE_STACK} KiB are as said")
+print(f"failures: no room, closed pipes, unreadable input and files, a terminal, and stacks of {STACK} and {WIDE_STACK} KiB are as said")

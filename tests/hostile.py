@@ -1,4 +1,4 @@
-"""Compares the programs `ask` and `listing` with reference.py on valid, damaged and hostile inputs.
+"""Compares the programs `ask`, `listing` and `pack` with reference.py on valid, damaged and hostile inputs.
 
 Run from the repository's root: python3 tests/hostile.py [FOLDER OF THE PROGRAMS]. The inputs are the same in each
 run. The first difference is printed with its command and input, and the run fails.
@@ -28,8 +28,16 @@ def number(word):
 # The greatest number of messages in a trace.
 MESSAGE_LIMIT = 262144
 
+# The greatest length of a list of rule numbers or body lengths, and the most bytes of the bodies that `pack` takes.
+LIST_LIMIT = 1024
+BODIES_LIMIT = 65535
+
 # How many numbers follow the word of a form. A trace has one at least.
 COUNTS = {"judge": 0, "classes": 1, "step": 3, "fault": 3}
+
+# The words of each refusal, which tests/readme.py compares with those of `ask why`.
+with open("docs/FORMAT.md", encoding="utf-8") as format_text:
+    REASONS = dict(re.findall(r"^\| (\d+) \| ([^|]+) \| [^|]+ \|$", format_text.read(), re.M))
 
 
 def are_numbers(words):
@@ -51,7 +59,7 @@ def is_form(words):
 
 
 class Unreadable(Exception):
-    """A file that no trace is read from: what standard error must say of it."""
+    """A file that is not read, or a list that is too long: what standard error must say of it."""
 
 
 def messages_of(words):
@@ -97,8 +105,25 @@ def form_answer(words, body):
             f"counts {counted(w.sent_count)} {counted(w.received_count)}")
 
 
+def two_bytes(words):
+    return are_numbers(words) and all(number(word) < 65536 for word in words)
+
+
+def lists_of(words):
+    """The rule numbers and the body lengths of a collection to be written, as words."""
+    slash = words.index("/", 2)
+    return words[2:slash], words[slash + 1:]
+
+
 def ask_answer(words, data):
     """The answer of `ask` to a question, without the line's end."""
+    if words[0] == "write":
+        rules, lengths = ([number(word) for word in listed] for listed in lists_of(words))
+        file = reference.write_collection(rules, lengths, data, number(words[1]))
+        return f"written {len(file)} bytes {' '.join(map(str, file))}"
+    if words[0] == "body":
+        body = reference.body_of(data, number(words[1]))
+        return "absent" if body is None else " ".join(["body", *map(str, body)])
     if words == ["collection"]:
         return f"accepted {reference.judge_collection(data)}"
     if words[:1] == ["rule"]:
@@ -108,18 +133,59 @@ def ask_answer(words, data):
 
 
 def is_question(words):
+    if words[:1] == ["write"]:
+        if not are_numbers(words[1:2]) or "/" not in words[2:]:
+            return False
+        if any(len(listed) > LIST_LIMIT for listed in lists_of(words)):
+            raise Unreadable(f"ask: more than {LIST_LIMIT} numbers in a list\n")
+        return all(map(two_bytes, lists_of(words)))
+    if words[:1] == ["body"]:
+        return len(words) == 2 and are_numbers(words[1:])
     if words[:1] == ["rule"]:
         return are_numbers(words[1:2]) and is_form(words[2:])
     return words == ["collection"] or is_form(words)
+
+
+def read_bodies(names):
+    """The bodies of these files."""
+    bodies = []
+    for name in names:
+        try:
+            with open(name, "rb") as file:
+                bodies.append(file.read())
+        except OSError as error:
+            raise Unreadable(f"pack: {name}: {os.strerror(error.errno)}\n")
+        if sum(map(len, bodies)) > BODIES_LIMIT:
+            raise Unreadable(f"pack: {name}: the bodies up to this one have more than {BODIES_LIMIT} bytes\n")
+    return bodies
+
+
+def pack_expected(words):
+    """The same for `pack`, which looks at one rule more than a collection can have."""
+    rules, names = words[0:2 * 513:2], words[1:2 * 513:2]
+    if not words or len(words) % 2 or not two_bytes(rules):
+        return "", "usage: pack "
+    try:
+        bodies = read_bodies(names)
+        file = reference.write_collection([number(rule) for rule in rules], [len(body) for body in bodies],
+                                          b"".join(bodies), INPUT_LIMIT)
+        return file.decode("latin-1"), ""
+    except Unreadable as error:
+        return "", str(error)
+    except Refused as no:
+        named = f": {names[no.place]}" if no.number in (1, 2, 3, 4, 5, 6, 7, 8, 23) else ""
+        return "", f"pack: refused {no.number} {no.place}{named}: {REASONS[str(no.number)]}\n"
 
 
 def expected(program, words, data):
     """What the program must write to standard output and to standard error. The usage is told by its beginning."""
     if program == "listing":
         return reference.listing(data), ""
-    if not is_question(words):
-        return "", "usage: ask "
+    if program == "pack":
+        return pack_expected(words)
     try:
+        if not is_question(words):
+            return "", "usage: ask "
         messages_of(words[2:] if words[0] == "rule" else words) if "trace" in words else None
         reference.question(len(data) <= INPUT_LIMIT, 26, 0)
         return ask_answer(words, data) + "\n", ""
@@ -151,7 +217,7 @@ def compare(case):
     else:
         told = err == wanted_error
     if out == wanted and told:
-        return max(1, wanted.count("\n") - 1), None
+        return max(1, wanted.count("\n") - 1) if program == "listing" else 1, None
     return 0, (f"command: {program} {' '.join(words)[:1000]}\n{differing_entry(data, wanted, out)}"
                f"input ({len(data)} bytes): {data.hex()}\nexpected: {wanted}(standard error: {wanted_error})\n"
                f"came: {out}(standard error: {err})")
@@ -167,7 +233,7 @@ def differing_entry(data, wanted, came):
 
 
 def main():
-    for program in ("ask", "listing"):
+    for program in ("ask", "listing", "pack"):
         if not os.access(os.path.join(PROGRAMS, program), os.X_OK):
             sys.exit(f"hostile: {os.path.join(PROGRAMS, program)} is missing")
     total = 0

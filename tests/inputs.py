@@ -5,7 +5,7 @@ import tempfile
 
 import reference
 from reference import INPUT_LIMIT
-from tables import A, B, D, E, NAMED, collection, damaged, far_table, in_a_row, late_repeat, packed, random_table, table
+from tables import A, B, C, D, E, NAMED, collection, damaged, far_table, in_a_row, late_repeat, packed, random_table, table
 
 ROOM = 1000         # an area that holds every answer
 WIDE = [2**8, 2**8 + 1, 2**16, 2**32, 2**32 + 3, 2**63, 2**64 - 1, 2**64, 2**64 + 1, 2**64 + 3, 2**64 + 6, 10**40]
@@ -17,6 +17,10 @@ def ask(data, *words):
 
 def listing(data):
     return "listing", [], data
+
+
+def pack(*words):
+    return "pack", [str(word) for word in words], b""
 
 
 # ---- valid tables ----------------------------------------------------------------------------------------
@@ -128,14 +132,19 @@ def steps_and_traces(rng):
         yield ask(E, "trace", 6, *[0] * length, 2, 1)
 
 
-FILES = tempfile.TemporaryDirectory()   # for traces; kept until the tests end, since a case is run after it is made
+FILES = tempfile.TemporaryDirectory()   # for traces and bodies; kept until the tests end, since a case is run after it is made
+
+
+def kept(name, data):
+    """The name of a new file with these bytes."""
+    with open(os.path.join(FILES.name, name), "wb") as file:
+        file.write(bytes(data))
+    return file.name
 
 
 def stored(name, messages):
     """The word that names a new file with these messages."""
-    with open(os.path.join(FILES.name, name), "wb") as file:
-        file.write(bytes(messages))
-    return "@" + file.name
+    return "@" + kept(name, messages)
 
 
 def fallen_verdicts(rng):
@@ -425,6 +434,162 @@ def rules_of_collections(rng):
         yield ask(bytes(65537), "rule", 0, *words)
 
 
+def bodies_of_rules(rng):
+    """The body of each rule, and of rules that are not there; collections that are refused; wrong arguments."""
+    for _ in range(40):
+        bodies = [rng.choice([rng.choice(NAMED), random_table(rng, rng.randint(1, 64), rng.randint(1, 16)), b"", b"\xff" * 300])
+                  for _ in range(rng.randint(0, 8))]
+        rules = sorted(rng.sample(range(300), len(bodies)))
+        data = collection(list(zip(rules, bodies)))
+        for rule in {*rules, *[rule + 1 for rule in rules], 0, 65535, 65536 + rng.choice(rules + [0]), rng.choice(WIDE)}:
+            yield ask(data, "body", rule)
+        for refused in (data[:-1], data + b"\0", bytes([1]) + data[1:]):
+            yield ask(refused, "body", rng.choice(rules + [7]))
+    for words in ([], [1, 2], ["x"], [""], ["-1"], ["judge"], [1, "judge"]):
+        yield ask(collection([(1, A)]), "body", *words)
+    yield ask(collection([(1, A)]), "rule", 1, "body")
+    yield ask(bytes(65537), "body", 0)
+
+
+# ---- collections to be written ---------------------------------------------------------------------------
+
+def write(rules, lengths, bodies, area):
+    return ask(bodies, "write", area, *rules, "/", *lengths)
+
+
+def size_of(rules, bodies):
+    return 2 + 8 * len(rules) + sum(map(len, bodies))
+
+
+def areas_around(rng, size):
+    """None, one short, exact, one more, and more than there is memory."""
+    return sorted({0, size - 1, size, size + 1, rng.choice(WIDE)})
+
+
+def some_rules(rng, count, top=65536):
+    return sorted(rng.sample(range(top), count))
+
+
+def written_lists(rng):
+    """What is written is the file; every area around its length."""
+    yield from (write([], [], b"", area) for area in (0, 1, 2, 3))
+    for _ in range(300):
+        bodies = [rng.choice(NAMED) if rng.random() < 0.5 else random_table(rng, rng.randint(1, 9), rng.randint(1, 4))
+                  for _ in range(rng.randint(0, 9))]
+        rules = some_rules(rng, len(bodies), rng.choice([10, 256, 257, 65536]))
+        for area in areas_around(rng, size_of(rules, bodies)):
+            yield write(rules, map(len, bodies), b"".join(bodies), area)
+
+
+def unequal_lists(rng):
+    """27 before all others; sums that are one off either way, after 23; rule numbers equal and falling at each place."""
+    for _ in range(60):
+        bodies = [rng.choice(NAMED + [b"", A[:-1]]) for _ in range(rng.randint(1, 7))]
+        rules, lengths, joined = some_rules(rng, len(bodies), 100), [len(body) for body in bodies], b"".join(bodies)
+        for area in (0, 1000):
+            yield write(rules[1:], lengths, joined, area)
+            yield write(rules, lengths[:-1], joined, area)
+            yield write(rules[::-1] + rules, lengths, joined, area)
+            for sum_off in (joined[:-1], joined + b"\0", b"", joined + joined):
+                yield write(rules, lengths, sum_off, area)
+                yield write(rules[::-1], lengths, sum_off, area)
+            for place in range(1, len(rules)):
+                for wrong in (rules[place - 1], rules[place - 1] - 1):
+                    yield write([*rules[:place], max(wrong, 0), *rules[place + 1:]], lengths, joined, area)
+                    yield write([*rules[:place], max(wrong, 0), *rules[place + 1:]], lengths, joined[1:], area)
+            place = rng.randrange(len(lengths))
+            longer = [length + (i == place) for i, length in enumerate(lengths)]
+            yield write(rules, longer, joined, area)
+            yield write(rules, longer, joined + b"\7", area)
+
+
+def wrong_bodies(rng):
+    """A wrong body at every entry with each of questions 1 to 8, alone, before another wrong one, and with a short area."""
+    for count in (1, 2, 3, 6):
+        for question in range(1, 9):
+            for entry in range(count):
+                n, k = rng.choice([2, 3, rng.randint(4, 64)]), rng.choice([1, 2, rng.randint(1, 16)])
+                sound = [random_table(rng, n, k, [0] * (n - 1) + [rng.choice([1, 2])]) for _ in range(count)]
+                bodies = list(sound)
+                bodies[entry] = damaged(rng, sound[entry], (n, k), question, rng.choice(["first", "last", "any"]))
+                rules = some_rules(rng, count)
+                yield write(rules, map(len, bodies), b"".join(bodies), rng.choice([0, 100000]))
+                other = rng.randrange(count)
+                bodies[other] = damaged(rng, bodies[other], (n, k), rng.randint(1, 8), "any") if other != entry else b""
+                yield write(rules, map(len, bodies), b"".join(bodies), rng.choice([0, 100000]))
+
+
+def longest_bodies(rng):
+    """As many bodies as a collection can have, of 65,536 bytes together."""
+    bodies = [random_table(rng, 64, 16) for _ in range(57)] + [A] * 8 + [D] * 446 + [random_table(rng, 46, 12)]
+    assert len(bodies) == 512 and sum(map(len, bodies)) == INPUT_LIMIT
+    return bodies
+
+
+def many_rules(rng):
+    """512 and 513 rules; lists as long as `ask` takes and longer; the longest file; lengths of up to 65,535 bytes."""
+    for count in (511, 512, 513, 1024, 1025):
+        rules, lengths = list(range(count)), [len(D)] * count
+        yield write(rules, lengths, D * count, 100000)
+        yield write(rules[1:], lengths, D * count, 100000)
+        yield write(rules, lengths[1:], D * count, 100000)
+        yield write([*rules[:-1], 0], lengths, D * count, 100000)
+    bodies = longest_bodies(rng)
+    rules = some_rules(rng, len(bodies))
+    for area in areas_around(rng, size_of(rules, bodies)):
+        yield write(rules, map(len, bodies), b"".join(bodies), area)
+    yield write([9], [65535], bytes(65535), 100000)
+    yield write([9], [65535], bytes(65536), 100000)
+    yield write([9, 10], [65535, 1], bytes(65536), 100000)
+    yield write([9, 10], [65535, 65535], bytes(65536), 100000)
+    yield write([9], [9], bytes(65537), 100000)
+    yield write([0, 65535], [9, 9], A + A, 36)
+
+
+def wrong_lists(rng):
+    """Words that are no lists of two-byte numbers."""
+    for word in ("", "x", "-1", "65536", "65537", "131072", str(2**64), "9" * 40, "1/", "//", "@"):
+        yield ask(A, "write", 100, word, "/", 9)
+        yield ask(A, "write", 100, 1, "/", word)
+        yield ask(A, "write", 100, 1, word, 2, "/", 9, 9, 9)
+    yield ask(A + A, "write", 100, "00001", "65535", "/", "9", "0000000000009")
+    for words in ([], ["/"], [9], [100, 1, 9], [100, "/", 9, "/"], [100, "/", "/"], ["x", "/"], ["/", 100], [100, "/"], [100, 1, "/"]):
+        yield ask(A, "write", *words)
+        yield ask(b"", "write", *words)
+
+
+def packed_files(rng):
+    """`pack`: what is written, each refusal with its file, files that are missing or too long, and wrong arguments."""
+    names = {body: kept(f"body {i}", body) for i, body in enumerate(NAMED + [b"", A[:-1], bytes(65535), bytes(65536), bytes(70000)])}
+    sound = [names[body] for body in NAMED]
+
+    def pairs(rules, files):
+        return pack(*[word for pair in zip(rules, files) for word in pair])
+
+    for count in range(1, len(sound) + 1):
+        files = rng.sample(sound, count)
+        yield pairs(some_rules(rng, count), files)
+        yield pairs(some_rules(rng, count)[::-1], files)
+        for question in range(1, 9):
+            entry = rng.randrange(count)
+            wrong = kept(f"wrong {count} {question}", damaged(rng, C, (3, 4), question, "any"))
+            yield pairs(some_rules(rng, count), files[:entry] + [wrong] + files[entry + 1:])
+        for missing in (FILES.name, names[A] + "x", "", "tests/none", "x" * 5000):
+            entry = rng.randrange(count)
+            yield pairs(some_rules(rng, count), files[:entry] + [missing] + files[entry + 1:])
+    for first in (bytes(65535), bytes(65536), bytes(70000), A):
+        for second in (b"", A, bytes(65535), bytes(65536)):
+            yield pairs([1, 2], [names[first], names[second]])
+    for count in (511, 512, 513, 514, 600):
+        yield pairs(range(count), [names[A]] * count)
+    exact = [kept(f"large {i}", random_table(rng, 64, 16)) for i in range(59)]
+    yield pairs(range(59), exact)
+    yield pairs(range(61), exact + [names[A], names[E]])
+    for words in ([], [1], [names[A]], [names[A], 1], [1, names[A], 2], [65536, names[A]], ["x", names[A]], ["", ""],
+                  [2**64, names[A]], [1, names[A], names[A], 2], ["01", names[A]]):
+        yield pack(*words)
+
+
 def input_sizes(rng):
     """Inputs around 65,536 bytes; accepted collections of exactly that size."""
     wide = [table(*late_repeat(64, 16))] + [random_table(rng, 64, 16, [0] * 62 + [1, 2]) for _ in range(57)]
@@ -448,4 +613,5 @@ GROUPS = [named_tables, small_listings, listings_of_all_sizes, far_listings, wit
           witnesses_of_all_sizes, areas_for_witnesses, classes_of_tables, steps_and_traces, fallen_verdicts,
           traces_in_files, damaged_in_listings, damaged_in_calls, lengths_and_counts, random_bytes,
           numbers_around_limits, leading_zeros, wrong_arguments, cut_collections, altered_collections,
-          counts_and_numbers, gaps_and_overlaps, random_collections, rules_of_collections, input_sizes]
+          counts_and_numbers, gaps_and_overlaps, random_collections, rules_of_collections, bodies_of_rules,
+          written_lists, unequal_lists, wrong_bodies, many_rules, wrong_lists, packed_files, input_sizes]

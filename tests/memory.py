@@ -1,4 +1,4 @@
-"""Runs `listing`, `card` and `ask` under valgrind on the largest, shortest and most damaged inputs.
+"""Runs `listing`, `card`, `ask` and `pack` under valgrind on the largest, shortest and most damaged inputs.
 
 Run from the repository's root: python3 tests/memory.py [FOLDER OF THE PROGRAMS]. What the programs print is not looked
 at here; each invalid read or write, and each decision on a value that was never set, is an error. The refusals are
@@ -13,7 +13,7 @@ import subprocess
 import sys
 from concurrent.futures import ThreadPoolExecutor
 
-from inputs import FILES, ROOM, ask, listing, stored
+from inputs import FILES, ROOM, ask, kept, listing, longest_bodies, pack, stored, write
 from tables import A, D, collection, damaged, in_a_row, late_repeat, random_table, table
 
 PROGRAMS = sys.argv[1] if len(sys.argv) > 1 else os.path.join("target", "bin")
@@ -86,12 +86,48 @@ def refusals():
         yield card(data)
 
 
+def written():
+    """The largest file, areas that just hold it or do not, and every refusal of the writer, by `ask` and by `pack`."""
+    rng = random.Random("memory")
+    bodies = longest_bodies(rng)
+    rules, lengths, joined = sorted(rng.sample(range(65536), 512)), [len(body) for body in bodies], b"".join(bodies)
+    for area in (0, 1, 69633, 69634, 69635, 2**64 + 1):
+        yield write(rules, lengths, joined, area)
+    yield write([], [], b"", 2)
+    yield write([], [], b"", 1)
+    yield write(rules + [65535], lengths, joined, 100000)
+    yield write(list(range(513)), lengths + [0], joined, 100000)
+    yield write(rules[::-1], lengths, joined, 100000)
+    yield write(rules, lengths, joined[:-1], 100000)
+    yield write([1], [65535], bytes(65536), 100000)
+    yield write(list(range(1024)), [0] * 1024, b"", 9)
+    yield write(list(range(1025)), [0] * 1025, b"", 9)
+    body = random_table(rng, 6, 3, [0, 0, 1, 1, 2, 2])
+    broken = [damaged(rng, body, (6, 3), question, "last") for question in range(1, 9)]
+    for wrong in broken:
+        yield write([1, 2], [len(body), len(wrong)], body + wrong, 1000)
+        yield pack(1, kept("sound", body), 2, kept(f"wrong {broken.index(wrong)}", wrong))
+    names = [kept(f"body {i}", body) for i, body in enumerate(bodies)]
+    yield pack(*[word for pair in zip(rules[:59], names) for word in pair])
+    yield pack(*[word for pair in zip(rules[:60], names) for word in pair])
+    yield pack(*[word for rule in range(513) for word in (rule, names[-2])])
+    yield pack(*[word for rule in range(600) for word in (rule, names[-2])])
+    yield pack(2, names[0], 1, names[0])
+    for size in (65535, 65536, 200000):
+        yield pack(1, kept(f"long {size}", bytes(size)), 2, names[0])
+    for words in ([], [1], ["--help"], [1, "tests/none"], [1, "tests"], [LONG, names[0]], [1, LONG], [65536, names[0]]):
+        yield pack(*words)
+    for rule in (1, 2, LONG):
+        yield ask(collection([(1, body), (3, b"")]), "body", rule)
+
+
 def arguments():
     """No arguments, wrong ones, and very long ones."""
     for words in ([], ["x"], [""], [LONG], ["classes"], ["classes", "-1"], ["classes", LONG], ["classes", LONG + "x"],
                   ["fault", LONG, LONG, LONG], ["fault", 8, 3, "0" * 100000], ["step", 3, LONG, LONG],
                   ["trace", 3, 0, LONG], ["--help"], ["why", 8], ["why", LONG], ["why"], ["rule"], ["rule", LONG],
-                  ["rule", LONG, "judge"], ["rule", 1, LONG], ["rule", 1, "trace", 3, LONG]):
+                  ["rule", LONG, "judge"], ["rule", 1, LONG], ["rule", 1, "trace", 3, LONG], ["write"], ["write", 9],
+                  ["write", 9, LONG, "/"], ["write", LONG, "/"], ["write", 9, "/", LONG], ["write", 9, "x", "/"], ["body"]):
         yield ask(A, *words)
     yield "listing", ["--help"], A
     yield "listing", [LONG], A
@@ -118,10 +154,10 @@ def error_of(case, out=os.devnull):
 def main():
     if shutil.which("valgrind") is None:
         sys.exit("memory: valgrind is not installed")
-    for program in ("ask", "card", "listing"):
+    for program in ("ask", "card", "listing", "pack"):
         if not os.access(os.path.join(PROGRAMS, program), os.X_OK):
             sys.exit(f"memory: {os.path.join(PROGRAMS, program)} is missing")
-    cases = [*large_tables(), *collections(), *refusals(), *arguments()]
+    cases = [*large_tables(), *collections(), *refusals(), *written(), *arguments()]
     full = list(refusals())
     with ThreadPoolExecutor(2) as pool:
         runs = [*pool.map(error_of, cases), *pool.map(error_of, full, ["/dev/full"] * len(full))]

@@ -254,6 +254,34 @@ def body_of(data, rule):
     return dict(read_collection(data)).get(rule)
 
 
+def least_first(n, width):
+    """The bytes of a number, least byte first."""
+    return bytes(n // 256 ** i % 256 for i in range(width))
+
+
+def write_collection(rules, lengths, bodies, area_length):
+    """The file of the rule numbers and of the bodies, which are cut at the lengths."""
+    question(len(rules) == len(lengths), 27, 0)
+    question(len(rules) <= 512, 21, 0)
+    for entry in range(1, len(rules)):
+        question(rules[entry - 1] < rules[entry], 23, entry)
+    question(sum(lengths) == len(bodies), 28, 0)
+    offset = 2 + 8 * len(rules)
+    file = least_first(len(rules), 2)
+    for rule, length in zip(rules, lengths):
+        file += least_first(offset, 4) + least_first(length, 2) + least_first(rule, 2)
+        offset += length
+    start = 0
+    for entry, length in enumerate(lengths):
+        try:
+            judge(bodies[start:start + length])
+        except Refused as no:
+            raise Refused(no.number, entry) from None
+        start += length
+    question(len(file + bodies) <= area_length, 13, 0)
+    return file + bodies
+
+
 def listing_line(rule, body):
     try:
         monitorability = MONITORABILITY[classes(body, 64).monitorability]

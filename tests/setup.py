@@ -10,12 +10,12 @@ import sys
 import tempfile
 
 ROOT = pathlib.Path(__file__).resolve().parent.parent
-PROGRAMS = ["ask", "card", "listing"]
+PROGRAMS = ["ask", "card", "listing", "pack"]
 SAMPLE = (ROOT / "samples/sample.collection").read_bytes()
 
 # What a call of each program prints first.
 CALLS = {"listing": "rule states class loss corruption repeat swap\n3 2 pos 1 1 - -\n", "card 31": "rule 31: pos (",
-         "ask collection": "accepted 15\n"}
+         "ask collection": "accepted 15\n", "pack --help": "pack writes a collection to standard output"}
 
 # What each command needs, and where a user gets it.
 KIT = "rt", "it is the command of the Rattle kit"

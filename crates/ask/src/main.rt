@@ -21,9 +21,6 @@ use output::Output;
 use output::Program;
 ghost use Prim.Native.Nat.{_≤_};
 
-// The longest collection of bodies that an input holds: a count, 512 entries and 65,536 bytes.
-const FILE_ROOM: usize = 69634;
-
 // The answer, and the class of each state. So many bytes are lent, but no more than the longest answer takes.
 fn classify(out: Output, body: &[u8], room: usize) -> Output {
     let mut area = [0u8; WITNESS_ROOM];
@@ -106,34 +103,25 @@ fn answer(subject: Subject, form: Form, messages: &[u8], space: &mut [u8]) {
     }
 }
 
-// The answer to a trace, after its messages are gathered.
-fn answer_trace(subject: Subject, form: Form, source: Source, space: &mut [u8]) {
-    let mut area = [0u8; messages::ROOM];
-    match messages::gather(source, &mut area, space) {
-        Gathered::Messages { count } => answer(subject, form, basics::part(&area, 0, count), space),
+// The answer to a trace, after its messages are gathered into the area.
+fn answer_trace(subject: Subject, form: Form, source: Source, area: &mut [u8], space: &mut [u8]) {
+    match messages::gather(source, area, space) {
+        Gathered::Messages { count } => answer(subject, form, basics::part(area, 0, count), space),
         Gathered::Unclear => words::usage(),
         Gathered::Failed => {}
     }
 }
 
-// The answer to a form. Only a trace has room for messages, in a frame of its own. It is called in two places: what is
-// called in one the compiler makes a part of its caller, and then every form would have that room.
-fn answer_form(subject: Subject, form: Form, space: &mut [u8]) {
-    let Form::Trace { source, .. } = form else {
-        answer(subject, form, b"", space);
-        return;
-    };
-    match subject {
-        Subject::Body => answer_trace(Subject::Body, form, source, space),
-        Subject::Rule(rule) => answer_trace(Subject::Rule(rule), form, source, space),
-        Subject::Collection => words::usage(),
-    }
-}
-
-// The collection of these rule numbers and bodies. So many bytes are lent, but no more than the longest takes.
-fn write(out: Output, rules: &[u16], lengths: &[u16], bodies: &[u8], room: usize) -> Output {
-    let mut area = [0u8; FILE_ROOM];
-    let end = basics::least_of(room, FILE_ROOM);
+// The collection of these rule numbers and bodies. So many bytes are lent, but no more than the area has.
+fn write(
+    out: Output,
+    rules: &[u16],
+    lengths: &[u16],
+    bodies: &[u8],
+    room: usize,
+    area: &mut [u8],
+) -> Output {
+    let end = basics::least_of(room, area.len());
     let lent = &mut area[0..end];
     let answer = writer::write(rules, lengths, bodies, lent);
     let answered = printing::writing(out, answer);
@@ -144,13 +132,13 @@ fn write(out: Output, rules: &[u16], lengths: &[u16], bodies: &[u8], room: usize
 }
 
 // The answer line of a collection to be written. Its bodies are the input.
-fn answer_write(rules: &[u16], lengths: &[u16], room: usize, space: &mut [u8]) {
+fn answer_write(rules: &[u16], lengths: &[u16], room: usize, area: &mut [u8], space: &mut [u8]) {
     let read = input::read(Program::Ask, space);
     let out = output::standard(Program::Ask);
     match read {
         Input::Whole { length } => {
             let bodies = basics::part(space, 0, length);
-            write(out, rules, lengths, bodies, room).text(b"\n");
+            write(out, rules, lengths, bodies, room, area).text(b"\n");
         }
         Input::Refused(r) => {
             printing::refusal(out, r).text(b"\n");
@@ -160,7 +148,7 @@ fn answer_write(rules: &[u16], lengths: &[u16], room: usize, space: &mut [u8]) {
 }
 
 // The same for lists of so many numbers, which are the arguments.
-fn answer_lists(room: usize, rules: usize, lengths: usize, space: &mut [u8])
+fn answer_lists(room: usize, rules: usize, lengths: usize, area: &mut [u8], space: &mut [u8])
     requires { ⌜ (rules ≤ 1024)
         × (lengths ≤ 1024) ⌝ }
 {
@@ -169,13 +157,13 @@ fn answer_lists(room: usize, rules: usize, lengths: usize, space: &mut [u8])
     let given_rules = &mut rule_list[0..rules];
     let given_lengths = &mut length_list[0..lengths];
     if lists::read_both(given_rules, given_lengths, space) {
-        answer_write(given_rules, given_lengths, room, space);
+        answer_write(given_rules, given_lengths, room, area, space);
     } else {
         words::usage();
     }
 }
 
-fn answer_written(room: usize, rules: usize, lengths: usize, space: &mut [u8]) {
+fn answer_written(room: usize, rules: usize, lengths: usize, area: &mut [u8], space: &mut [u8]) {
     if rules > lists::LIMIT {
         lists::tell_too_long();
         return;
@@ -184,7 +172,57 @@ fn answer_written(room: usize, rules: usize, lengths: usize, space: &mut [u8]) {
         lists::tell_too_long();
         return;
     }
-    answer_lists(room, rules, lengths, space);
+    answer_lists(room, rules, lengths, area, space);
+}
+
+// What takes a large array: the messages of a trace, or a collection that is written.
+enum Large {
+    Trace {
+        subject: Subject,
+        form: Form,
+        source: Source,
+    },
+    Write {
+        room: usize,
+        rules: usize,
+        lengths: usize,
+    },
+}
+
+// The answer to these, with the array in a frame of its own. It is called in several places: what is called in one the
+// compiler makes a part of its caller, and then every form would have that room.
+fn answer_large(large: Large, space: &mut [u8]) {
+    let mut area = [0u8; messages::ROOM];
+    match large {
+        Large::Trace {
+            subject,
+            form,
+            source,
+        } => answer_trace(subject, form, source, &mut area, space),
+        Large::Write {
+            room,
+            rules,
+            lengths,
+        } => answer_written(room, rules, lengths, &mut area, space),
+    }
+}
+
+fn answer_form(subject: Subject, form: Form, space: &mut [u8]) {
+    let Form::Trace { source, .. } = form else {
+        answer(subject, form, b"", space);
+        return;
+    };
+    match subject {
+        Subject::Collection => words::usage(),
+        _ => answer_large(
+            Large::Trace {
+                subject,
+                form,
+                source,
+            },
+            space,
+        ),
+    }
 }
 
 // The number of a refusal, which stands before its reason.
@@ -208,7 +246,14 @@ fn main() {
             room,
             rules,
             lengths,
-        } => answer_written(room, rules, lengths, &mut space),
+        } => answer_large(
+            Large::Write {
+                room,
+                rules,
+                lengths,
+            },
+            &mut space,
+        ),
         Asked::Unclear => words::usage(),
     }
 }
