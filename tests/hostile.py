@@ -218,9 +218,21 @@ def compare(case):
         told = err == wanted_error
     if out == wanted and told:
         return max(1, wanted.count("\n") - 1) if program == "listing" else 1, None
-    return 0, (f"command: {program} {' '.join(words)[:1000]}\n{differing_entry(data, wanted, out)}"
+    return 0, (f"command: {program} {' '.join(words)}\n{files_of(program, words)}{differing_entry(data, wanted, out)}"
                f"input ({len(data)} bytes): {data.hex()}\nexpected: {wanted}(standard error: {wanted_error})\n"
                f"came: {out}(standard error: {err})")
+
+
+def files_of(program, words):
+    """For `pack`: the files that it was given, which are its input."""
+    if program != "pack":
+        return ""
+    held = []
+    for name in words[1::2]:
+        if os.path.isfile(name):
+            with open(name, "rb") as file:
+                held.append(f"file {name}: {file.read().hex()}\n")
+    return "".join(held)
 
 
 def differing_entry(data, wanted, came):

@@ -582,9 +582,14 @@ def packed_files(rng):
             yield pairs([1, 2], [names[first], names[second]])
     for count in (511, 512, 513, 514, 600):
         yield pairs(range(count), [names[A]] * count)
-    exact = [kept(f"large {i}", random_table(rng, 64, 16)) for i in range(59)]
-    yield pairs(range(59), exact)
-    yield pairs(range(61), exact + [names[A], names[E]])
+    large = [kept(f"large {i}", random_table(rng, 64, 16)) for i in range(60)]
+    fits, exceeds = kept("fits", random_table(rng, 62, 10)), kept("exceeds", random_table(rng, 57, 11))
+    assert size_of(range(60), [bytes(59 * 1091), random_table(rng, 62, 10)]) == INPUT_LIMIT
+    yield pairs(range(59), large)
+    yield pairs(range(60), large)
+    yield pairs(range(60), large[:59] + [fits])
+    yield pairs(range(60), large[:59] + [exceeds])
+    yield pairs(range(61), large[:59] + [names[A], names[E]])
     for words in ([], [1], [names[A]], [names[A], 1], [1, names[A], 2], [65536, names[A]], ["x", names[A]], ["", ""],
                   [2**64, names[A]], [1, names[A], names[A], 2], ["01", names[A]]):
         yield pack(*words)

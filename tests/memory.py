@@ -108,8 +108,9 @@ def written():
         yield write([1, 2], [len(body), len(wrong)], body + wrong, 1000)
         yield pack(1, kept("sound", body), 2, kept(f"wrong {broken.index(wrong)}", wrong))
     names = [kept(f"body {i}", body) for i, body in enumerate(bodies)]
-    yield pack(*[word for pair in zip(rules[:59], names) for word in pair])
-    yield pack(*[word for pair in zip(rules[:60], names) for word in pair])
+    full = kept("full", random_table(rng, 64, 16))
+    for last in (full, kept("fits", random_table(rng, 62, 10)), kept("exceeds", random_table(rng, 57, 11))):
+        yield pack(*[word for rule in range(59) for word in (rule, full)], 59, last)
     yield pack(*[word for rule in range(513) for word in (rule, names[-2])])
     yield pack(*[word for rule in range(600) for word in (rule, names[-2])])
     yield pack(2, names[0], 1, names[0])

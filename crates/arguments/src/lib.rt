@@ -1,5 +1,6 @@
 // A program's arguments: decimal numbers of any length, and words.
 ghost use mathlib.Core.Path.{_≡_};
+ghost use Prim.Native.Nat.{_≤_};
 ghost use Rattle.arguments.specs.Numbers.{isDigit, decimalOf, twoBytesOf};
 
 // A greater number is answered as this one: no answer goes by how far above it a number is. Ten times it and a digit
@@ -70,9 +71,28 @@ pub fn number_at(i: usize, space: &mut [u8]) -> Decimal {
 }
 
 // The same as a number of two bytes.
-pub fn two_bytes_at(i: usize, space: &mut [u8]) -> TwoBytes {
+fn two_bytes_at(i: usize, space: &mut [u8]) -> TwoBytes {
     let length = os::arg(i, space);
     read_two_bytes(&space[..length])
+}
+
+// Fills the list with the arguments from `first` on, each `step` behind the one before. Answers whether all are numbers
+// of two bytes.
+pub fn fill_two_bytes(list: &mut [u16], first: usize, step: usize, space: &mut [u8]) -> bool
+    requires { ⌜ (first ≤ 4294967296)
+        × (step ≤ 2) ⌝ }
+{
+    let mut at = first;
+    let mut i = 0;
+    while i < list.len() {
+        let TwoBytes::Number(number) = two_bytes_at(at, space) else {
+            return false;
+        };
+        list[i] = number;
+        at += step;
+        i += 1;
+    }
+    true
 }
 
 // Whether the program's argument i, read likewise, is this word.

@@ -1,5 +1,5 @@
-// Answers one question: the question as arguments, the body or the collection on standard input, the answer as one
-// line on standard output.
+// Answers one question: the question as arguments, the body, the collection or the bodies on standard input, the answer
+// as one line on standard output.
 mod words;
 
 use asking::asked;
@@ -87,20 +87,23 @@ fn of_subject(out: Output, subject: Subject, form: Form, input: &[u8], messages:
     }
 }
 
+// What is answered where the input is not there whole: that it is too long, or nothing.
+fn answer_unread(read: Input) {
+    let Input::Refused(r) = read else {
+        return;
+    };
+    printing::refusal(output::standard(Program::Ask), r).text(b"\n");
+}
+
 // The answer line. Before all others the program asks whether the input is short enough.
 fn answer(subject: Subject, form: Form, messages: &[u8], space: &mut [u8]) {
     let read = input::read(Program::Ask, space);
+    let Input::Whole { length } = read else {
+        answer_unread(read);
+        return;
+    };
     let out = output::standard(Program::Ask);
-    match read {
-        Input::Whole { length } => {
-            let input = basics::part(space, 0, length);
-            of_subject(out, subject, form, input, messages).text(b"\n");
-        }
-        Input::Refused(r) => {
-            printing::refusal(out, r).text(b"\n");
-        }
-        Input::Failed => {}
-    }
+    of_subject(out, subject, form, basics::part(space, 0, length), messages).text(b"\n");
 }
 
 // The answer to a trace, after its messages are gathered into the area.
@@ -112,7 +115,7 @@ fn answer_trace(subject: Subject, form: Form, source: Source, area: &mut [u8], s
     }
 }
 
-// The collection of these rule numbers and bodies. So many bytes are lent, but no more than the area has.
+// The collection of these rule numbers and bodies. The area that is lent has no more bytes than there are.
 fn write(
     out: Output,
     rules: &[u16],
@@ -131,24 +134,20 @@ fn write(
     printing::bytes(answered.text(b" bytes"), basics::part(lent, 0, length))
 }
 
-// The answer line of a collection to be written. Its bodies are the input.
-fn answer_write(rules: &[u16], lengths: &[u16], room: usize, area: &mut [u8], space: &mut [u8]) {
+// The answer line of a collection to be written, whose bodies are the input.
+fn answer_lists(rules: &[u16], lengths: &[u16], room: usize, area: &mut [u8], space: &mut [u8]) {
     let read = input::read(Program::Ask, space);
+    let Input::Whole { length } = read else {
+        answer_unread(read);
+        return;
+    };
     let out = output::standard(Program::Ask);
-    match read {
-        Input::Whole { length } => {
-            let bodies = basics::part(space, 0, length);
-            write(out, rules, lengths, bodies, room, area).text(b"\n");
-        }
-        Input::Refused(r) => {
-            printing::refusal(out, r).text(b"\n");
-        }
-        Input::Failed => {}
-    }
+    let bodies = basics::part(space, 0, length);
+    write(out, rules, lengths, bodies, room, area).text(b"\n");
 }
 
-// The same for lists of so many numbers, which are the arguments.
-fn answer_lists(room: usize, rules: usize, lengths: usize, area: &mut [u8], space: &mut [u8])
+// The same, after the lists are read: so many rule numbers, and so many lengths.
+fn read_lists(room: usize, rules: usize, lengths: usize, area: &mut [u8], space: &mut [u8])
     requires { ⌜ (rules ≤ 1024)
         × (lengths ≤ 1024) ⌝ }
 {
@@ -156,14 +155,15 @@ fn answer_lists(room: usize, rules: usize, lengths: usize, area: &mut [u8], spac
     let mut length_list = [0u16; lists::LIMIT];
     let given_rules = &mut rule_list[0..rules];
     let given_lengths = &mut length_list[0..lengths];
-    if lists::read_both(given_rules, given_lengths, space) {
-        answer_write(given_rules, given_lengths, room, area, space);
+    if lists::read(given_rules, given_lengths, space) {
+        answer_lists(given_rules, given_lengths, room, area, space);
     } else {
         words::usage();
     }
 }
 
-fn answer_written(room: usize, rules: usize, lengths: usize, area: &mut [u8], space: &mut [u8]) {
+// The same, where both lists are short enough.
+fn answer_write(room: usize, rules: usize, lengths: usize, area: &mut [u8], space: &mut [u8]) {
     if rules > lists::LIMIT {
         lists::tell_too_long();
         return;
@@ -172,7 +172,7 @@ fn answer_written(room: usize, rules: usize, lengths: usize, area: &mut [u8], sp
         lists::tell_too_long();
         return;
     }
-    answer_lists(room, rules, lengths, area, space);
+    read_lists(room, rules, lengths, area, space);
 }
 
 // What takes a large array: the messages of a trace, or a collection that is written.
@@ -203,7 +203,7 @@ fn answer_large(large: Large, space: &mut [u8]) {
             room,
             rules,
             lengths,
-        } => answer_written(room, rules, lengths, &mut area, space),
+        } => answer_write(room, rules, lengths, &mut area, space),
     }
 }
 

@@ -48,7 +48,7 @@ pub fn help() {
             b"\nA reading is 3 (marks) or 6 (classes); a set is the sum of loss 1, corruption 2, repeat 4, swap 8;\n",
         )
         .text(
-            b"AREA is the number of bytes lent for the answer: 69634 is always enough for write, 5000 for the others.\n",
+            b"AREA is the number of bytes lent for the answer: 5000 is always enough, for write 69634.\n",
         )
         .text(b"A refusal is the word refused, a number and a place.\n\n")
         .text(b"Example: ask rule 20 fault 8 3 3 < samples/sample.collection\n")

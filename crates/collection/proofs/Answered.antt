@@ -6,7 +6,8 @@ use lib.ListN.{length}
 use borrow.Author.Tests.{eqb-true, eq-eqb, le-leb}
 use Rattle.theory.specs.Answer.{answered, asks}
 use Rattle.theory.proofs.Answer.{asks-yes, asks-both}
-use Rattle.collection.specs.Contents.{countOf, contentsEnd, entryLimit, ruleOf, startOfBody, rises, follows, firstNo, question20, question21, question22, question23}
+use Rattle.collection.specs.Contents.{countOf, contentsEnd, entryLimit, ruleOf, startOfBody, rises, follows, firstNo}
+use Rattle.collection.specs.Contents.{question20, question21, question22, question23}
 use Rattle.collection.specs.Contents.{question24, question25, collectionQuestions, collectionAnswer}
 
 -- what questions 23, 24 and 25 leave

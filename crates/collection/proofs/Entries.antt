@@ -8,7 +8,7 @@ use native.Mathlib.Omega.{arith}
 use lib.ListN.{getD, take, drop}
 use lib.Dec.{ltb}
 use borrow.Author.Tests.{lt-ltb, le-ltb, eq-eqb, ne-eqb}
-use Rattle.collection.specs.Contents.{numberAt, countOf, entryOf, offsetOf, lengthOf, ruleOf, startOfBody, rises}
+use Rattle.collection.specs.Contents.{numberAt, countOf, entryOf, offsetOf, lengthOf, startOfBody, rises}
 
 -- a number of two bytes, and one of four made of two such
 pub two-bytes-are : (l : List ℕ) (at : ℕ) {a b : ℕ} → a ≡ getD l at 0 → b ≡ getD l (at + 1) 0 → a + 256 * b ≡ numberAt 2 l at

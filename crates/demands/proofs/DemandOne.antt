@@ -1,4 +1,4 @@
--- Demand 1, proved of every body, every collection file and every area.
+-- Demand 1, proved of every body, every collection file, every area, and all that is handed to the writer.
 use mathlib.Core.Path.{_≡_, refl, sym, ap, _∙_}
 use mathlib.Core.Bool.{Bool, true, false, cond}
 use mathlib.Core.List.{List, [], _∷_, _++_}

@@ -44,7 +44,8 @@ pub record Lent {A : Type 0} (answer : Answer A) (bytes area : List ℕ) : Type 
   -- bytes that do not fit are refused
   pub short : length area < length bytes → (number : ℕ) × (place : ℕ) × (answer ≡ refused number place)
 
--- a body, a collection file and an area, each of any content and length; `limit` is the greatest number of states
+-- a body, a collection file, an area, and lists and bodies to be written, each of any content and length; `limit` is
+-- the greatest number of states
 pub record DemandOne (limit : ℕ) (body file area : List ℕ) : Type 0 where
   -- a body is asked questions 1 to 8
   pub table : Judged (tableQuestions limit body) noValues (judgeAnswer limit body)

@@ -31,7 +31,8 @@ pub enum Opened {
     Refused(Refusal),
 }
 
-fn refused(number: usize, place: usize) -> Judgement
+// A refusal as a judgement.
+pub fn refused(number: usize, place: usize) -> Judgement
     ensures { λ r. ⌜ judgement r ≡ Answer.refused number place ⌝ }
 {
     Judgement::Refused(Refusal { number, place })

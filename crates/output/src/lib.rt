@@ -9,8 +9,8 @@ pub enum Program {
     Test,
 }
 
-// Where words go: standard output, or standard error. After a write that failed nothing more is written; standard
-// error has told it.
+// Where words go: standard output, or standard error. After a write that failed nothing more is written. Standard error
+// has told it, unless the words were meant for it.
 pub struct Output {
     program: Program,
     descriptor: i32,
@@ -84,7 +84,9 @@ impl Output {
         if io::write_all(descriptor, words) {
             return self;
         }
-        failure(program, b"standard output");
+        if descriptor == libc::STDOUT_FILENO {
+            failure(program, b"standard output");
+        }
         Output {
             program,
             descriptor,

@@ -2,8 +2,6 @@
 // goes to standard output.
 mod words;
 
-use arguments::TwoBytes;
-use basics::Refusal;
 use basics::Writing;
 use collection::ENTRY_LIMIT;
 use input::Filled;
@@ -26,27 +24,9 @@ enum Gathered {
     Failed,
 }
 
-// The argument that has the rule number of an entry. Behind it stands the name of the file with its body.
-fn rule_argument(entry: usize) -> usize {
-    1 + 2 * basics::least_of(entry, MOST)
-}
-
-// Puts that name into the space and answers its length.
+// Puts the name of an entry's file into the space and answers its length. It stands behind the rule number.
 fn read_name(entry: usize, space: &mut [u8]) -> usize {
     os::arg(2 + 2 * basics::least_of(entry, MOST), space)
-}
-
-// Fills the list with the rule numbers. Answers whether all are numbers of two bytes.
-fn read_rules(rules: &mut [u16], space: &mut [u8]) -> bool {
-    let mut i = 0;
-    while i < rules.len() {
-        let TwoBytes::Number(number) = arguments::two_bytes_at(rule_argument(i), space) else {
-            return false;
-        };
-        rules[i] = number;
-        i += 1;
-    }
-    true
 }
 
 // Reads the file of an entry into a space that has a byte more than is left for it.
@@ -107,7 +87,7 @@ fn pack(count: usize, space: &mut [u8])
     let mut bodies = [0u8; ROOM];
     let rules = &mut rule_list[0..count];
     let lengths = &mut length_list[0..count];
-    if !read_rules(rules, space) {
+    if !arguments::fill_two_bytes(rules, 1, 2, space) {
         words::usage();
         return;
     }

@@ -2,7 +2,7 @@
 use mathlib.Core.Path.{_≡_, refl, sym, ap, ap₂, _∙_}
 use mathlib.Core.List.{List, [], _∷_, _++_, map}
 use mathlib.Core.Bool.{Bool, true, false, cond}
-use Prim.Native.Nat.{ℕ, suc, _+_, _*_, _≤_, _<_}
+use Prim.Native.Nat.{ℕ, _+_, _≤_, _<_}
 use native.Mathlib.Nat.{zero-add}
 use native.Mathlib.Numerals.{add-one}
 use native.Mathlib.Omega.{arith}
@@ -10,30 +10,27 @@ use lib.ListN.{length, getD, take, drop}
 use Rattle.theory.specs.Lists.{each}
 use Rattle.theory.specs.Answer.{Question, Answer, refused, answered, asks}
 use Rattle.theory.proofs.Lists.{each-at}
-use Rattle.theory.proofs.Answer.{asks-yes, asks-passed, asks-refused}
+use Rattle.theory.proofs.Answer.{asks-passed, asks-refused}
 use Rattle.monitor.specs.Questions.{tableQuestions, noValues, judgeAnswer}
-use Rattle.writer.specs.Writing.{sum, givenBody, bodyQuestions, bodiesQuestions}
+use Rattle.writer.specs.Writing.{sum, givenBody, placedAt, bodyQuestions, bodiesQuestions}
 use Rattle.writer.proofs.Given.{Summed, none-summed, one-summed}
 
 -- ---- questions with another place
 
-abbrev at : ℕ → Question → Question
-at entry q = record { yes = q .yes; number = q .number; place = entry }
+-- an answer, with this place where it is a refusal
+abbrev placing : ℕ → Answer (List ℕ) → Answer (List ℕ)
+placing entry (refused number place) = refused number entry
+placing entry (answered values) = answered values
 
-placed-yes : (entry : ℕ) (qs : List Question) (values : List ℕ) → asks qs values ≡ answered values → asks (map (at entry) qs) values ≡ answered values
-placed-yes entry [] values e = refl
-placed-yes entry (q ∷ qs) values e = (let y = asks-yes q qs values e in rw (y .0) (placed-yes entry qs values (y .1)))
-
-placed-no : (entry : ℕ) (qs : List Question) (values : List ℕ) {number place : ℕ} → asks qs values ≡ refused number place
-    → asks (map (at entry) qs) values ≡ refused number entry
-placed-no entry [] values e = absurd (let z : _≡_ {A = ℕ} 0 1 = cc in omega arith)
-placed-no entry (q ∷ qs) values {number} {place} e = go (q .yes) e (placed-no entry qs values)
+placed : (entry : ℕ) (qs : List Question) (values : List ℕ) → asks (map (placedAt entry) qs) values ≡ placing entry (asks qs values)
+placed entry [] values = refl
+placed entry (q ∷ qs) values = go (q .yes) (placed entry qs values)
   where
-    go : (b : Bool) → cond b (asks qs values) (refused (q .number) (q .place)) ≡ refused number place
-        → (asks qs values ≡ refused number place → asks (map (at entry) qs) values ≡ refused number entry)
-        → cond b (asks (map (at entry) qs) values) (refused (q .number) entry) ≡ refused number entry
-    go true h rest = rest h
-    go false h rest = (let e : q .number ≡ number = cc in rw e)
+    go : (b : Bool) → asks (map (placedAt entry) qs) values ≡ placing entry (asks qs values)
+        → cond b (asks (map (placedAt entry) qs) values) (refused (q .number) entry)
+        ≡ placing entry (cond b (asks qs values) (refused (q .number) (q .place)))
+    go true h = h
+    go false h = refl
 
 -- ---- the first i bodies are accepted, and lie in the first bytes
 
@@ -61,7 +58,8 @@ module _ {limit : ℕ} {lengths bodies : List ℕ} {from i : ℕ} (p : Accepted 
     asked =
         ap (λ (j : ℕ). asks (bodiesQuestions limit lengths bodies j) noValues) (add-one i)
         ∙ asks-passed (each i questions) (questions i) noValues noValues (p .asked)
-        ∙ placed-yes i (tableQuestions limit (givenBody lengths bodies i)) noValues e;
+        ∙ placed i (tableQuestions limit (givenBody lengths bodies i)) noValues
+        ∙ ap (placing i) e;
   }
 
   pub one-no : i < length lengths → {number place : ℕ} → judgeAnswer limit (givenBody lengths bodies i) ≡ refused number place
@@ -71,7 +69,7 @@ module _ {limit : ℕ} {lengths bodies : List ℕ} {from i : ℕ} (p : Accepted 
       let r = each-at i (length lengths) questions h in
       sym (ap (λ (qs : List Question). asks qs noValues) (r .1)
       ∙ asks-passed (each i questions) (questions i ++ r .0) noValues noValues (p .asked)
-      ∙ asks-refused (questions i) (r .0) noValues noValues (placed-no i (tableQuestions limit (givenBody lengths bodies i)) noValues e))
+      ∙ asks-refused (questions i) (r .0) noValues noValues (placed i (tableQuestions limit (givenBody lengths bodies i)) noValues ∙ ap (placing i) e))
 
   pub all-asked : length lengths ≤ i → answered noValues ≡ asks (bodiesQuestions limit lengths bodies (length lengths)) noValues
   all-asked h = (let e : i ≡ length lengths = omega (arith, h, p .behind .upto) in

@@ -3,20 +3,21 @@ use mathlib.Core.Path.{_≡_, refl, sym, ap, ap₂, _∙_}
 use mathlib.Core.Bool.{Bool, true}
 use mathlib.Core.List.{List, [], _∷_, _++_, append-assoc, append-nil}
 use Prim.Native.Nat.{ℕ, zero, suc, _+_, _*_, _-_, _≤_, _<_}
-use native.Mathlib.Nat.{le-refl}
+use native.Mathlib.Nat.{le-refl, add-zero}
 use native.Mathlib.Omega.{arith}
 use lib.ListN.{length, take, drop, length-append}
 use borrow.Author.Tests.{eq-eqb}
 use Rattle.theory.specs.Lists.{each}
 use Rattle.theory.specs.Answer.{answered}
 use Rattle.theory.proofs.Lists.{each-cut}
-use Rattle.collection.specs.Contents.{numberAt, countOf, offsetOf, lengthOf, ruleOf, bodyOf, entryOf, startOfBody, rises, follows, firstNo, entryLimit, collectionAnswer}
+use Rattle.collection.specs.Contents.{numberAt, countOf, offsetOf, lengthOf, ruleOf, bodyOf, entryOf, startOfBody}
+use Rattle.collection.specs.Contents.{rises, follows, firstNo, entryLimit, collectionAnswer}
 use Rattle.collection.proofs.Answered.{all-accepted}
 use Rattle.collection.proofs.Entries.{entry-there}
 use Rattle.collection.proofs.Order.{passes-at, all-pass}
 use Rattle.writer.specs.Encoding.{bytesOf, bodyStart, entryFor, encoding}
 use Rattle.writer.specs.Reading.{HandsBack}
-use Rattle.writer.proofs.Numbers.{number-drop, number-back, short-two, short-four}
+use Rattle.writer.proofs.Numbers.{Short, number-drop, number-back}
 use Rattle.writer.proofs.Read.{start-first, start-next}
 
 -- numbers and bodies that a collection can have
@@ -54,29 +55,32 @@ module _ {c : ℕ} {rule : ℕ → ℕ} {body : ℕ → List ℕ} (w : Writable 
   start-small i h = omega (arith, bodies-short i (omega (arith, h)), w .few, h)
 
   count-read : countOf file ≡ c
-  count-read = number-back 2 c (entries ++ each c body) (short-two (omega (arith, w .few)))
+  count-read = number-back 2 c (entries ++ each c body) (omega (arith, w .few))
 
   entry-read : (i : ℕ) → i < c → entryOf file i ≡ entryFor c rule body i
   entry-read i h =
       sym (entry-there file i (sym count-read) h)
       ∙ each-cut i c (entryFor c rule body) h (bytesOf 2 c) (each c body) (2 + 8 * i) (omega (arith, entries-long i (entryFor c rule body) (λ j. refl)))
 
+  -- a number of an entry, by its width and its place
+  number-read : (i : ℕ) → i < c → (w at n : ℕ) (rest : List ℕ) → drop at (entryFor c rule body i) ≡ bytesOf w n ++ rest → Short w n
+      → numberAt w (entryOf file i) at ≡ n
+  number-read i h w at n rest e s =
+      ap₂ (λ (l : List ℕ) (j : ℕ). numberAt w l j) (entry-read i h) (sym (add-zero at))
+      ∙ sym (number-drop w at (entryFor c rule body i) 0)
+      ∙ ap (λ (l : List ℕ). numberAt w l 0) e
+      ∙ number-back w n rest s
+
   offset-read : (i : ℕ) → i < c → offsetOf file i ≡ bodyStart c body i
   offset-read i h =
-      ap (λ (e : List ℕ). numberAt 4 e 0) (entry-read i h)
-      ∙ number-back 4 (bodyStart c body i) (bytesOf 2 (length (body i)) ++ bytesOf 2 (rule i)) (short-four (start-small i h))
+      let small = start-small i h in
+      number-read i h 4 0 (bodyStart c body i) (bytesOf 2 (length (body i)) ++ bytesOf 2 (rule i)) refl (omega (arith, small))
 
   length-read : (i : ℕ) → i < c → lengthOf file i ≡ length (body i)
-  length-read i h =
-      ap (λ (e : List ℕ). numberAt 2 e 4) (entry-read i h)
-      ∙ sym (number-drop 2 4 (entryFor c rule body i) 0)
-      ∙ number-back 2 (length (body i)) (bytesOf 2 (rule i)) (short-two (w .short i h))
+  length-read i h = number-read i h 2 4 (length (body i)) (bytesOf 2 (rule i)) refl (omega (arith, w .short i h))
 
   rule-read : (i : ℕ) → i < c → ruleOf file i ≡ rule i
-  rule-read i h =
-      ap (λ (e : List ℕ). numberAt 2 e 6) (entry-read i h)
-      ∙ sym (number-drop 2 6 (entryFor c rule body i) 0)
-      ∙ number-back 2 (rule i) [] (short-two (w .small i h))
+  rule-read i h = number-read i h 2 6 (rule i) [] refl (omega (arith, w .small i h))
 
   body-read : (i : ℕ) → i < c → bodyOf file i ≡ body i
   body-read i h =

@@ -1,8 +1,8 @@
 -- The lists and bodies handed to the writer: where each body lies, and the file they stand for.
 use mathlib.Core.Path.{_≡_, refl, sym, ap, ap₂, _∙_}
 use mathlib.Core.List.{List, [], _∷_, _++_, append-assoc}
-use Prim.Native.Nat.{ℕ, zero, suc, _+_, _*_, _-_, _≤_, _<_, min}
-use native.Mathlib.Nat.{zero-add, add-zero}
+use Prim.Native.Nat.{ℕ, zero, suc, _+_, _*_, _≤_, _<_}
+use native.Mathlib.Nat.{add-zero}
 use native.Mathlib.Numerals.{add-one}
 use native.Mathlib.Omega.{arith}
 use lib.ListN.{length, getD, take, drop, length-take, length-drop}
@@ -14,10 +14,9 @@ use Rattle.theory.proofs.Lists.{each-same}
 use Rattle.theory.proofs.Answer.{asks-yes, asks-values, asks-both, asks-other, asks-passed, asks-refused}
 use Rattle.collection.specs.Contents.{rises, firstNo, entryLimit, question21, question23}
 use Rattle.monitor.specs.Questions.{noValues, question13}
-use Rattle.writer.specs.Encoding.{bytesOf, bodyStart, entryFor, encoding}
-use Rattle.writer.specs.Reading.{Wide}
+use Rattle.writer.specs.Encoding.{bytesOf, entryFor}
 use Rattle.writer.specs.Writing.{sum, givenRule, givenBody, fileOf, question27, question28, bodiesQuestions, givenQuestions, writeAnswer}
-use Rattle.writer.specs.Writing.{Fits, entryGiven}
+use Rattle.writer.specs.Writing.{TwoByte, Fits, entryGiven}
 use Rattle.writer.proofs.Encoded.{Writable, encoding-long}
 
 -- ---- sums
@@ -134,30 +133,29 @@ module _ (limit : ℕ) (rules lengths bodies : List ℕ) (e : asks (givenQuestio
   abbrev more : List Question
   more = bodiesQuestions limit lengths bodies (length rules)
 
-  pub given-fits : Fits rules lengths bodies
-  given-fits =
+  given-rise : (firstNo (rises (givenRule rules)) (length rules) ≡ length rules) × Fits rules lengths bodies
+  given-rise =
       let rise = question23 (givenRule rules) (length rules) in
       let whole = question28 lengths bodies in
       let q₁ = asks-yes (question27 rules lengths) (question21 (length rules) ∷ rise ∷ whole ∷ more) noValues e in
       let q₂ = asks-yes (question21 (length rules)) (rise ∷ whole ∷ more) noValues (q₁ .1) in
       let q₃ = asks-yes rise (whole ∷ more) noValues (q₂ .1) in
-      let q₄ = asks-yes whole more noValues (q₃ .1) in
-      record {
-        same = eqb-true (length rules) (length lengths) (q₁ .0);
-        few = leb-true (length rules) entryLimit (q₂ .0);
-        whole = eqb-true (sum lengths) (length bodies) (q₄ .0);
-      }
+      let q₄ = asks-yes whole more noValues (q₃ .1) in (
+        eqb-true (firstNo (rises (givenRule rules)) (length rules)) (length rules) (q₃ .0),
+        record {
+          same = eqb-true (length rules) (length lengths) (q₁ .0);
+          few = leb-true (length rules) entryLimit (q₂ .0);
+          whole = eqb-true (sum lengths) (length bodies) (q₄ .0);
+        },
+      )
 
-  pub given-writable : Wide rules → Wide lengths → Writable (length rules) (givenRule rules) (givenBody lengths bodies)
-  given-writable r l =
-      let rise = question23 (givenRule rules) (length rules) in
-      let whole = question28 lengths bodies in
-      let q₁ = asks-yes (question27 rules lengths) (question21 (length rules) ∷ rise ∷ whole ∷ more) noValues e in
-      let q₂ = asks-yes (question21 (length rules)) (rise ∷ whole ∷ more) noValues (q₁ .1) in
-      let q₃ = asks-yes rise (whole ∷ more) noValues (q₂ .1) in
-      record {
-        few = given-fits .few;
-        rise = eqb-true (firstNo (rises (givenRule rules)) (length rules)) (length rules) (q₃ .0);
-        small = λ i h. r i;
-        short = λ i h. rw (body-long given-fits i) (l i);
-      }
+  pub given-fits : Fits rules lengths bodies
+  given-fits = given-rise .1
+
+  pub given-writable : TwoByte rules → TwoByte lengths → Writable (length rules) (givenRule rules) (givenBody lengths bodies)
+  given-writable r l = record {
+    few = given-fits .few;
+    rise = given-rise .0;
+    small = λ i h. r i;
+    short = λ i h. rw (body-long given-fits i) (l i);
+  }

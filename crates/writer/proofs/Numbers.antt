@@ -3,7 +3,7 @@ use mathlib.Core.Path.{_≡_, refl, sym, ap, ap₂, _∙_}
 use mathlib.Core.List.{List, [], _∷_, _++_}
 use mathlib.Core.Logic.{⊎-elim}
 use Prim.Native.Nat.{ℕ, zero, suc, _+_, _*_, _/_, _%_, _≤_, _<_}
-use native.Mathlib.Nat.{add-suc, le-of-suc-le-suc, not-suc-le-zero}
+use native.Mathlib.Nat.{add-zero, add-suc, le-of-suc-le-suc, not-suc-le-zero}
 use native.Mathlib.Omega.{arith}
 use lib.ListN.{length, getD, take, drop, length-take, length-drop, take-append-drop, List·getD-eq-default}
 use lib.Seq.{getD-drop, getD-take, drop-drop, take-all}
@@ -30,12 +30,6 @@ abbrev pub Short : ℕ → ℕ → Type 0
 Short zero n = n ≡ 0
 Short (suc w) n = Short w (n / 256)
 
-pub short-two : {n : ℕ} → n < 65536 → n / 256 / 256 ≡ 0
-short-two h = omega (arith, h)
-
-pub short-four : {n : ℕ} → n < 4294967296 → n / 256 / 256 / 256 / 256 ≡ 0
-short-four h = omega (arith, h)
-
 pub number-back : (w n : ℕ) (rest : List ℕ) → Short w n → numberAt w (bytesOf w n ++ rest) 0 ≡ n
 number-back zero n rest h = sym h
 number-back (suc w) n rest h =
@@ -53,24 +47,26 @@ bytes-take m l b i =
     (λ h. (let e = List·getD-eq-default (take m l) 0 {n = i} (omega (arith, length-take m l, h)) in omega (arith, e)))
     (lt-or-le i m)
 
-pub bytes-back : (w : ℕ) (l : List ℕ) → w ≤ length l → Bytes l → bytesOf w (numberAt w l 0) ≡ take w l
-bytes-back zero l h b = refl
-bytes-back (suc w) [] h b = absurd (not-suc-le-zero h)
-bytes-back (suc w) (x ∷ l) h b =
+bytes-first : (w : ℕ) (l : List ℕ) → w ≤ length l → Bytes l → bytesOf w (numberAt w l 0) ≡ take w l
+bytes-first zero l h b = refl
+bytes-first (suc w) [] h b = absurd (not-suc-le-zero h)
+bytes-first (suc w) (x ∷ l) h b =
     let n = numberAt w l 0 in
     let x-small : x < 256 = b 0 in
     let low : (x + 256 * n) % 256 ≡ x = omega (arith, x-small) in
     let high : (x + 256 * n) / 256 ≡ n = omega (arith, x-small) in
-    let e = number-cons w x l 0 in
-    ap (λ (m : ℕ). bytesOf (suc w) (x + 256 * m)) e
+    ap (λ (m : ℕ). bytesOf (suc w) (x + 256 * m)) (number-cons w x l 0)
     ∙ ap₂ (λ (a m : ℕ). a ∷ bytesOf w m) low high
-    ∙ ap (λ (r : List ℕ). x ∷ r) (bytes-back w l (le-of-suc-le-suc h) (λ i. b (suc i)))
+    ∙ ap (λ (r : List ℕ). x ∷ r) (bytes-first w l (le-of-suc-le-suc h) (λ i. b (suc i)))
+
+pub bytes-back : (w at : ℕ) (l : List ℕ) → at + w ≤ length l → Bytes l → bytesOf w (numberAt w l at) ≡ take w (drop at l)
+bytes-back w at l h b =
+    ap (bytesOf w) (ap (numberAt w l) (sym (add-zero at)) ∙ sym (number-drop w at l 0))
+    ∙ bytes-first w (drop at l) (omega (arith, h, length-drop at l)) (bytes-drop at l b)
 
 -- eight bytes are the entry of the numbers in them
 pub entry-back : (e : List ℕ) → length e ≡ 8 → Bytes e → entryBytes (numberAt 4 e 0) (numberAt 2 e 4) (numberAt 2 e 6) ≡ e
 entry-back e l b =
-    let offset = bytes-back 4 e (omega (arith, l)) b in
-    let size = ap (bytesOf 2) (sym (number-drop 2 4 e 0)) ∙ bytes-back 2 (drop 4 e) (omega (arith, l, length-drop 4 e)) (bytes-drop 4 e b) in
-    let rule = ap (bytesOf 2) (sym (number-drop 2 6 e 0)) ∙ bytes-back 2 (drop 6 e) (omega (arith, l, length-drop 6 e)) (bytes-drop 6 e b) in
     let last : take 2 (drop 6 e) ≡ drop 2 (drop 4 e) = take-all 2 (drop 6 e) (omega (arith, l, length-drop 6 e)) ∙ sym (drop-drop 2 4 e) in
-    ap₂ (λ (x y : List ℕ). x ++ y) offset (ap₂ (λ (x y : List ℕ). x ++ y) size (rule ∙ last) ∙ take-append-drop 2 (drop 4 e)) ∙ take-append-drop 4 e
+    let behind = ap₂ (λ (x y : List ℕ). x ++ y) (bytes-back 2 4 e (omega (arith, l)) b) (bytes-back 2 6 e (omega (arith, l)) b ∙ last) in
+    ap₂ (λ (x y : List ℕ). x ++ y) (bytes-back 4 0 e (omega (arith, l)) b) (behind ∙ take-append-drop 2 (drop 4 e)) ∙ take-append-drop 4 e

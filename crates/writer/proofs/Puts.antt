@@ -1,7 +1,7 @@
 -- Bytes put into an area from a place on.
 use mathlib.Core.Path.{_≡_, refl, sym, ap, ap₂, _∙_}
 use mathlib.Core.List.{List, [], _∷_, _++_, append-assoc, append-nil}
-use Prim.Native.Nat.{ℕ, zero, suc, _+_, _*_, _-_, _/_, _%_, _≤_, _<_}
+use Prim.Native.Nat.{ℕ, suc, _+_, _*_, _-_, _/_, _%_, _≤_, _<_}
 use native.Mathlib.Nat.{add-zero, le-of-eq}
 use native.Mathlib.Numerals.{add-one}
 use native.Mathlib.Omega.{arith}
@@ -9,7 +9,7 @@ use lib.ListN.{length, getD, take, drop, set, length-set, length-append, length-
 use lib.Seq.{sets, length-sets, sets-eq, take-at, drop-at, drop-drop, take-length, take-all}
 use Rattle.theory.specs.Lists.{each}
 use Rattle.writer.specs.Encoding.{bytesOf, entryBytes}
-use Rattle.writer.specs.Writing.{sum, fileOf, Fits, entryGiven}
+use Rattle.writer.specs.Writing.{fileOf, Fits, entryGiven}
 use Rattle.writer.proofs.Encoded.{entries-long}
 use Rattle.writer.proofs.Given.{Summed, none-summed, one-summed, file-is, file-long}
 

@@ -1,7 +1,7 @@
 -- An accepted file is the encoding of what the reader hands back, whatever its bodies are.
 use mathlib.Core.Path.{_≡_, refl, sym, ap, ap₂, subst, _∙_}
 use mathlib.Core.List.{List, [], _∷_, _++_}
-use Prim.Native.Nat.{ℕ, zero, suc, _+_, _*_, _-_, _≤_, _<_}
+use Prim.Native.Nat.{ℕ, zero, suc, _+_, _*_, _≤_, _<_}
 use native.Mathlib.Nat.{le-refl}
 use native.Mathlib.Numerals.{add-one}
 use native.Mathlib.Omega.{arith}
@@ -11,9 +11,10 @@ use Rattle.theory.specs.Lists.{each}
 use Rattle.theory.specs.Answer.{answered}
 use Rattle.theory.proofs.Lists.{each-same}
 use Rattle.theory.proofs.Answer.{asks-values}
-use Rattle.collection.specs.Contents.{countOf, offsetOf, lengthOf, ruleOf, bodyOf, entryOf, startOfBody, collectionQuestions, collectionAnswer}
+use Rattle.collection.specs.Contents.{countOf, offsetOf, lengthOf, ruleOf, bodyOf, entryOf, startOfBody}
+use Rattle.collection.specs.Contents.{collectionQuestions, collectionAnswer}
 use Rattle.collection.proofs.Entries.{entry-there, starts-first}
-use Rattle.collection.proofs.Answered.{Answered, all-answered}
+use Rattle.collection.proofs.Answered.{all-answered}
 use Rattle.collection.proofs.Placed.{Placed, next-start, bodies-placed}
 use Rattle.writer.specs.Encoding.{bytesOf, entryBytes, bodyStart, entryFor, encoding}
 use Rattle.writer.specs.Reading.{Bytes, HandsBack}
@@ -50,7 +51,7 @@ module _ (file : List ℕ) (b : Bytes file) (accepted : collectionAnswer file �
   offset i h = placed i h .starts ∙ starts i (omega (arith, h))
 
   count-bytes : bytesOf 2 (countOf file) ≡ take 2 file
-  count-bytes = bytes-back 2 file (omega (arith, end)) b
+  count-bytes = bytes-back 2 0 file (omega (arith, end)) b
 
   entry-bytes : (i : ℕ) → i < countOf file → entryFor (countOf file) (ruleOf file) (bodyOf file) i ≡ take 8 (drop (2 + 8 * i) file)
   entry-bytes i h =

@@ -17,7 +17,7 @@ entryBytes offset size rule = bytesOf 4 offset ++ (bytesOf 2 size ++ bytesOf 2 r
 abbrev pub bodyStart : ℕ → (ℕ → List ℕ) → ℕ → ℕ
 bodyStart c body i = 2 + 8 * c + length (each i body)
 
--- entry i
+-- entry i: where its body starts, how long it is, and its rule number
 abbrev pub entryFor : ℕ → (ℕ → ℕ) → (ℕ → List ℕ) → ℕ → List ℕ
 entryFor c rule body i = entryBytes (bodyStart c body i) (length (body i)) (rule i)
 

@@ -10,10 +10,6 @@ use Rattle.collection.specs.Contents.{ruleOf, bodyOf, collectionAnswer}
 abbrev pub Bytes : List ℕ → Type 0
 Bytes l = (i : ℕ) → getD l i 0 < 256
 
--- every number of the list has two bytes at most
-abbrev pub Wide : List ℕ → Type 0
-Wide l = (i : ℕ) → getD l i 0 < 65536
-
 -- "the reader hands back" these numbers and bodies: the file is accepted with c entries, and entry i has the rule
 -- number `rule i` and the body `body i`
 pub record HandsBack (file : List ℕ) (c : ℕ) (rule : ℕ → ℕ) (body : ℕ → List ℕ) : Type 0 where

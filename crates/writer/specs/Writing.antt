@@ -1,7 +1,7 @@
 -- What is handed to the writer, the questions asked of it, and the file that it stands for.
 use mathlib.Core.Path.{_≡_}
 use mathlib.Core.List.{List, [], _∷_, _++_, map}
-use Prim.Native.Nat.{ℕ, _+_, _*_, _≤_}
+use Prim.Native.Nat.{ℕ, _+_, _*_, _≤_, _<_}
 use lib.ListN.{length, getD, take, drop}
 use lib.Dec.{eqb}
 use Rattle.theory.specs.Lists.{each}
@@ -9,6 +9,10 @@ use Rattle.theory.specs.Answer.{Question, Answer, asks}
 use Rattle.monitor.specs.Questions.{tableQuestions, question13}
 use Rattle.collection.specs.Contents.{entryLimit, question21, question23}
 use Rattle.writer.specs.Encoding.{entryBytes, encoding}
+
+-- what `write` takes, a list of two-byte numbers: every number of it is below 65,536
+abbrev pub TwoByte : List ℕ → Type 0
+TwoByte l = (i : ℕ) → getD l i 0 < 65536
 
 -- "lengths that sum"
 abbrev pub sum : List ℕ → ℕ
@@ -35,10 +39,13 @@ question27 rules lengths = record { yes = eqb (length rules) (length lengths); n
 abbrev pub question28 : List ℕ → List ℕ → Question
 question28 lengths bodies = record { yes = eqb (sum lengths) (length bodies); number = 28; place = 0 }
 
--- a body's "questions 1 to 8 with their own numbers"; "for 23 and bodies the place is the entry"
+-- "for 23 and bodies the place is the entry"
+abbrev pub placedAt : ℕ → Question → Question
+placedAt entry q = record { yes = q .yes; number = q .number; place = entry }
+
+-- a body's "questions 1 to 8 with their own numbers"
 abbrev pub bodyQuestions : ℕ → List ℕ → ℕ → List Question
-bodyQuestions limit body entry =
-    map (λ q. record { yes = q .yes; number = q .number; place = entry }) (tableQuestions limit body)
+bodyQuestions limit body entry = map (placedAt entry) (tableQuestions limit body)
 
 -- "body after body" for the first c entries
 abbrev pub bodiesQuestions : ℕ → List ℕ → List ℕ → ℕ → List Question

@@ -10,19 +10,13 @@ ghost use lib.ListN.{length, drop};
 ghost use lib.Seq.{sets};
 ghost use Rattle.theory.specs.Lists.{each};
 ghost use Rattle.theory.specs.Monitor.{stateLimit};
-ghost use Rattle.theory.specs.Answer.{Answer, asks, written};
+ghost use Rattle.theory.specs.Answer.{asks, written};
 ghost use Rattle.basics.specs.Refusals.{lengthWritten};
 ghost use Rattle.monitor.specs.Questions.{noValues, judgement};
 ghost use Rattle.collection.specs.Contents.{entryLimit, firstNo, rises as Contents·rises};
 ghost use Rattle.writer.specs.Encoding.{bytesOf, entryBytes};
 ghost use Rattle.writer.specs.Writing.{sum, givenRule, fileOf, bodiesQuestions, givenQuestions, writeAnswer};
 ghost use Rattle.writer.specs.Writing.{Fits, entryGiven};
-
-fn refused(number: usize, place: usize) -> Judgement
-    ensures { λ r. ⌜ judgement r ≡ Answer.refused number place ⌝ }
-{
-    Judgement::Refused(Refusal { number, place })
-}
 
 // Whether the rule number of entry i is greater than the one before.
 fn rises(rules: &[u16], i: usize) -> bool
@@ -76,7 +70,7 @@ fn judge_bodies(lengths: &[u16], bodies: &[u8]) -> Judgement
         let size = lengths[i] as usize;
         match monitor::judge(basics::part(bodies, from, size)) {
             Judgement::Refused(r) => {
-                return refused(r.number, i);
+                return monitor::refused(r.number, i);
             }
             Judgement::Accepted => {}
         }
@@ -89,21 +83,22 @@ fn judge_bodies(lengths: &[u16], bodies: &[u8]) -> Judgement
 // All that is asked before the room.
 fn judge(rules: &[u16], lengths: &[u16], bodies: &[u8]) -> Judgement
     ensures { λ r. ⌜ judgement r
-        ≡ asks (givenQuestions stateLimit (now (rules .entry)) (now (lengths .entry)) (now (bodies .entry))) noValues ⌝ }
+        ≡ asks (givenQuestions stateLimit (now (rules .entry)) (now (lengths .entry)) (now (bodies .entry)))
+        noValues ⌝ }
 {
     let count = rules.len();
     if count != lengths.len() {
-        return refused(27, 0);
+        return monitor::refused(27, 0);
     }
     if count > ENTRY_LIMIT {
-        return refused(21, 0);
+        return monitor::refused(21, 0);
     }
     let unsorted = first_not_rising(rules);
     if unsorted < count {
-        return refused(23, unsorted);
+        return monitor::refused(23, unsorted);
     }
     if total(lengths) != bodies.len() {
-        return refused(28, 0);
+        return monitor::refused(28, 0);
     }
     judge_bodies(lengths, bodies)
 }

@@ -9,7 +9,7 @@ use borrow.Author.Tests.{le-leb, lt-leb, eq-eqb, ne-eqb}
 use Rattle.theory.specs.Answer.{Question, asks}
 use Rattle.theory.specs.Monitor.{stateLimit}
 use Rattle.monitor.specs.Questions.{noValues}
-use Rattle.collection.specs.Contents.{rises, entryLimit, question23}
+use Rattle.collection.specs.Contents.{entryLimit, question23}
 use Rattle.collection.proofs.Order.{found-at, found-one, found-none}
 use Rattle.writer.specs.Writing.{givenRule, question28, bodiesQuestions, givenQuestions}
 use Rattle.writer.proofs.judge.Statement.{statement}
@@ -49,8 +49,9 @@ returns-4 c = c .refused4 .ensures ∙ sym (three (c .before .before) ∙ rw (�
 returns-5 : tie.Need-returns-5
 returns-5 c =
     let a = c .before .before .before .before .before .before .before .before .before .before .args in
+    let same = sym (c .before .before .before .before .before .before .if1 .left) in
     c .judge-bodies .ensures
-    ∙ ap (λ (n : ℕ). asks (bodiesQuestions stateLimit (a .lengths .now) (a .bodies .now) n) noValues) (sym (c .before .before .before .before .before .before .if1 .left))
+    ∙ ap (λ (n : ℕ). asks (bodiesQuestions stateLimit (a .lengths .now) (a .bodies .now) n) noValues) same
     ∙ sym (three (c .before .before) ∙ rw (← c .before .before .total .ensures, eq-eqb _ _ (c .before .if4 .left)))
 
 pub judge-spec : {M : Type 1} → statement M

@@ -35,7 +35,8 @@ add-offset-2 : tie.Need-add-offset-2 Inv-loop μ-loop
 add-offset-2 c =
     let at = c .before .before .before .before .before .before .before .loop in
     let pre = c .before .before .before .before .before .before .before .before .before .before .before .pre in
-    omega (arith, c .before .before .before .before .before .shared-slice-known3 .given (at .i), at .inv .starts .bounded, at .inv .starts .upto, pre .0, pre .1)
+    let small = c .before .before .before .before .before .shared-slice-known3 .given (at .i) in
+    omega (arith, small, at .inv .starts .bounded, at .inv .starts .upto, pre .0, pre .1)
 
 loop-again : tie.Need-loop-again Inv-loop μ-loop
 loop-again c =

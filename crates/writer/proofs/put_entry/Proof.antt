@@ -7,8 +7,9 @@ use Rattle.writer.proofs.put_entry.Tie as tie
 returns : tie.Need-returns
 returns c =
     let a = c .before .before .before .before .before .before .before .before .before .before .before .before .before .args in
-    entry-put (a .offset) (a .size) (a .rule) (a .area .now) _ _ _ (a .at) (c .before .before .before .before .before .before .before .before .before .before .put-number .ensures)
-    (c .before .before .before .before .before .before .put-number2 .ensures) (c .before .before .put-number3 .ensures)
+    let first = c .before .before .before .before .before .before .before .before .before .before .put-number .ensures in
+    let second = c .before .before .before .before .before .before .put-number2 .ensures in
+    entry-put (a .offset) (a .size) (a .rule) (a .area .now) _ _ _ (a .at) first second (c .before .before .put-number3 .ensures)
 
 pub put-entry-spec : {M : Type 1} → statement M
 put-entry-spec =

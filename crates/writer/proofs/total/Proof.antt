@@ -26,7 +26,9 @@ add-sum c =
     omega (arith, c .shared-slice-known .given (c .before .before .loop .i), c .before .before .loop .inv .bounded, c .before .before .before .pre)
 
 loop-again : tie.Need-loop-again Inv-loop μ-loop
-loop-again c = one-summed (c .before .before .loop .inv) (c .before .loop-test .taken) (omega (arith, c .shared-slice-known .given (c .before .before .loop .i)))
+loop-again c =
+    let small = c .shared-slice-known .given (c .before .before .loop .i) in
+    one-summed (c .before .before .loop .inv) (c .before .loop-test .taken) (omega (arith, small))
 
 returns : tie.Need-returns Inv-loop μ-loop
 returns c = all-summed (c .before .loop .inv) (omega arith) ∙ zero-add _

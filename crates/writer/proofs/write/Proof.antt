@@ -17,7 +17,8 @@ passed : (c : tie.After-enum-told)
     asks (givenQuestions stateLimit (a .rules .now) (a .lengths .now) (a .bodies .now)) noValues ≡ answered noValues)
 passed c = sym (c .before .before .judge .ensures) ∙ ap judgement (c .enum-told .given .1)
 
-fits : (c : tie.After-enum-told) → (let a = c .before .before .before .before .before .before .before .args in Fits (a .rules .now) (a .lengths .now) (a .bodies .now))
+fits : (c : tie.After-enum-told)
+    → (let a = c .before .before .before .before .before .before .before .args in Fits (a .rules .now) (a .lengths .now) (a .bodies .now))
 fits c = given-fits stateLimit _ _ _ (passed c)
 
 returns : tie.Need-returns
@@ -48,7 +49,9 @@ put-file-requires c κs = (fits (c .before .before), c .before .if1 .left)
 returns-3 : tie.Need-returns-3
 returns-3 c =
     let a = c .before .before .before .before .before .before .before .before .before .before .before .before .args in
-    let e = write-answered stateLimit (a .rules .now) (a .lengths .now) (a .bodies .now) _ (fits (c .before .before .before .before .before)) (passed (c .before .before .before .before .before)) (c .before .before .before .before .if1 .left) in
+    let told = c .before .before .before .before .before in
+    let room = c .before .before .before .before .if1 .left in
+    let e = write-answered stateLimit (a .rules .now) (a .lengths .now) (a .bodies .now) _ (fits told) (passed told) room in
     (e, c .before .before .put-file .ensures ∙ written-over (fileOf (a .rules .now) (a .lengths .now) (a .bodies .now)) (a .area .now) (sym e))
 
 pub write-spec : {M : Type 1} → statement M
