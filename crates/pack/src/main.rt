@@ -10,9 +10,10 @@ ghost use mathlib.Core.Path.{_≡_};
 ghost use Prim.Native.Nat.{_≤_};
 ghost use lib.ListN.{length};
 
-// Bytes lent for the collection. One less is the most that its bodies can have: their lengths have two bytes.
+// Bytes lent for the collection.
 const ROOM: usize = 65536;
 
+// The most bytes that the bodies may have together, so that each length has two bytes. No more fit into the collection.
 const BODIES: usize = 65535;
 
 // One rule more than a collection can have. What stands behind is not read: the count is refused before it matters.
