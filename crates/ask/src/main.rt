@@ -15,10 +15,10 @@ use classes::Classification;
 use collection::Collected;
 use collection::Lookup;
 use immunity::Finding;
-use immunity::WITNESS_ROOM;
 use input::Input;
 use output::Output;
 use output::Program;
+use witness::WITNESS_ROOM;
 ghost use Prim.Native.Nat.{_≤_};
 
 // The answer, and the class of each state. So many bytes are lent, but no more than the longest answer takes.

@@ -10,12 +10,12 @@ use faults::FaultSet;
 use faults::KINDS;
 use faults::Kind;
 use immunity::Finding;
-use immunity::WITNESS_ROOM;
 use input::Input;
 use output::Output;
 use output::Program;
 use page::Page;
 use theory::STATE_LIMIT;
+use witness::WITNESS_ROOM;
 
 // The finding under one fault and one reading.
 fn fault(out: Output, body: &[u8], kind: Kind, domain: usize) -> Output {

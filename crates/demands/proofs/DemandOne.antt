@@ -13,11 +13,12 @@ use Rattle.theory.proofs.Lists.{in-right}
 use Rattle.theory.proofs.Answer.{asks-values, untouched, all-answered, answered-all, no-refused}
 use Rattle.theory.proofs.Values.{length-values}
 use Rattle.monitor.specs.Format.{statesOf, monitorOf}
-use Rattle.monitor.specs.Questions.{tableQuestions, judgeAnswer, question9, question10, question13}
+use Rattle.monitor.specs.Questions.{tableQuestions, judgeAnswer, question9, question10, question13, question19}
 use Rattle.collection.specs.Contents.{countOf, collectionQuestions, collectionAnswer}
 use Rattle.writer.specs.Writing.{fileOf, givenQuestions, writeQuestions, writeAnswer}
 use Rattle.classes.specs.Classify.{classList, classifyFigures, classifyAnswer}
 use Rattle.immunity.specs.Findings.{tableFigures, faultAnswer, faultTrace}
+use Rattle.trust.specs.Trust.{trustFigures, trustAnswer, trustTrace}
 use Rattle.lines.specs.Line.{ruleLine, lineAnswer}
 use Rattle.demands.specs.DemandOne.{FirstNo, Judged, Lent, DemandOne}
 
@@ -77,7 +78,7 @@ asks-lent {A} front values bytes area size same = record { untouched = λ number
         absurd (omega arith)
 
 pub demand-one : (limit : ℕ) (body file area : List ℕ) → DemandOne limit body file area
-unfolding judgeAnswer collectionAnswer classifyAnswer faultAnswer lineAnswer writeAnswer
+unfolding judgeAnswer collectionAnswer classifyAnswer faultAnswer trustAnswer lineAnswer writeAnswer
 demand-one limit body file area =
     let m = monitorOf body in
     record {
@@ -85,6 +86,8 @@ demand-one limit body file area =
       collection = asks-judged (collectionQuestions file) (countOf file ∷ []);
       classes = asks-lent (tableQuestions limit body) (classifyFigures m) (classList m) area (statesOf body) (sym (length-values (statesOf body) (class m)));
       faults = λ set d. asks-lent (tableQuestions limit body ++ (question9 set ∷ question10 d ∷ [])) (tableFigures m d set) (faultTrace body set d) area _ refl;
+      trusts = λ set d v. asks-lent (tableQuestions limit body ++ (question9 set ∷ question10 d ∷ question19 d v ∷ [])) (trustFigures m d set v)
+          (trustTrace body set d v) area _ refl;
       writer = λ rules lengths bodies. asks-judged (writeQuestions limit rules lengths bodies (length area)) (length (fileOf rules lengths bodies) ∷ []);
       line = λ rule. asks-lent [] (length (ruleLine limit rule body) ∷ []) (ruleLine limit rule body) area _ refl;
       written-file = λ rules lengths bodies. asks-lent (givenQuestions limit rules lengths bodies) (length (fileOf rules lengths bodies) ∷ [])

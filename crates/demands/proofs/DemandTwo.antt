@@ -23,7 +23,8 @@ use Rattle.monitor.specs.Format.{statesOf, monitorOf}
 use Rattle.monitor.specs.Questions.{judgeAnswer, tableQuestions}
 use Rattle.monitor.proofs.Accepted.{accepted-table, accepted-asks}
 use Rattle.classes.specs.Classify.{classList, classifyQuestions, classifyFigures, classifyAnswer}
-use Rattle.immunity.specs.Findings.{FaultFigures, witnessFigures, witnessTrace, faultQuestions, tableFigures, faultAnswer, faultTrace}
+use Rattle.witness.specs.Figures.{FaultFigures, witnessFigures, witnessTrace}
+use Rattle.immunity.specs.Findings.{faultQuestions, tableFigures, faultAnswer, faultTrace}
 use Rattle.demands.specs.DemandTwo.{Published, Askable, Unharmed, Found, immune, vulnerable, DemandTwo}
 
 byte-class : (m : Monitor) (q : ℕ) → q < m .automaton .states → getD (classList m) q 0 ≡ class m q

@@ -13,6 +13,7 @@ use Rattle.collection.specs.Contents.{countOf, collectionQuestions, collectionA
 use Rattle.writer.specs.Writing.{fileOf, writeQuestions, writeAnswer}
 use Rattle.classes.specs.Classify.{classList, classifyAnswer}
 use Rattle.immunity.specs.Findings.{faultAnswer, faultTrace}
+use Rattle.trust.specs.Trust.{trustAnswer, trustTrace}
 use Rattle.lines.specs.Line.{ruleLine, lineAnswer}
 
 -- every question of the list is answered yes
@@ -55,9 +56,11 @@ pub record DemandOne (limit : ℕ) (body file area : List ℕ) : Type 0 where
   pub writer : (rules lengths bodies : List ℕ)
       → Judged (writeQuestions limit rules lengths bodies (length area)) (length (fileOf rules lengths bodies) ∷ [])
       (writeAnswer limit rules lengths bodies (length area))
-  -- the calls that are lent an area: classes, the fault question, a line of the listing, the writer
+  -- the calls that are lent an area: classes, the fault question, the question of trust, a line of the listing, the
+  -- writer
   pub classes : Lent (classifyAnswer limit body (length area)) (classList (monitorOf body)) area
   pub faults : (set d : ℕ) → Lent (faultAnswer limit body set d (length area)) (faultTrace body set d) area
+  pub trusts : (set d v : ℕ) → Lent (trustAnswer limit body set d v (length area)) (trustTrace body set d v) area
   pub line : (rule : ℕ) → Lent (lineAnswer limit rule body (length area)) (ruleLine limit rule body) area
   pub written-file : (rules lengths bodies : List ℕ)
       → Lent (writeAnswer limit rules lengths bodies (length area)) (fileOf rules lengths bodies) area

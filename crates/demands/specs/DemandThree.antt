@@ -12,7 +12,8 @@ use Rattle.theory.specs.Extent.{Extent, missing, smaller, AtMost}
 use Rattle.theory.specs.Distance.{Joined, Distance, DistanceOfSeveral, FirstWitness, reads, faultsOf}
 use Rattle.theory.specs.Computed.{distance}
 use Rattle.monitor.specs.Format.{monitorOf}
-use Rattle.immunity.specs.Findings.{FaultFigures, faultAnswer, faultTrace}
+use Rattle.witness.specs.Figures.{FaultFigures}
+use Rattle.immunity.specs.Findings.{faultAnswer, faultTrace}
 use Rattle.demands.specs.DemandTwo.{Askable, Found}
 
 -- `limit` is the greatest number of states

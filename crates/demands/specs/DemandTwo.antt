@@ -16,7 +16,8 @@ use Rattle.theory.specs.Extent.{number}
 use Rattle.theory.specs.Distance.{Harmed, Distance, FirstWitness}
 use Rattle.monitor.specs.Format.{statesOf, monitorOf}
 use Rattle.classes.specs.Classify.{classList, classifyAnswer}
-use Rattle.immunity.specs.Findings.{FaultFigures, seriesFigures, faultAnswer, faultTrace}
+use Rattle.witness.specs.Figures.{FaultFigures, seriesFigures}
+use Rattle.immunity.specs.Findings.{faultAnswer, faultTrace}
 
 -- what is answered of the states, for an area of `room` bytes, is what the published definitions say
 pub record Published (limit : ℕ) (b : List ℕ) (room : ℕ) : Type 0 where

@@ -4,9 +4,9 @@ use crate::runs;
 use faults::Fault;
 use faults::Kind;
 use faults::Symbols;
-use immunity::Witness;
 use output::Output;
 use readings::Count;
+use witness::Witness;
 ghost use Prim.Native.Nat.{_≤_, _<_};
 ghost use lib.ListN.{length};
 

@@ -14,7 +14,8 @@ use Rattle.theory.proofs.Lists.{each-same}
 use Rattle.basics.specs.Refusals.{refusal}
 use Rattle.basics.specs.declared.Refusal.{Refusal}
 use Rattle.immunity.specs.declared.Column.{Column}
-use Rattle.immunity.specs.Findings.{FaultFigures, finding, summaryFigures, columnFigures, cardAsking, found}
+use Rattle.witness.specs.Figures.{FaultFigures}
+use Rattle.immunity.specs.Findings.{finding, summaryFigures, columnFigures, cardAsking, found}
 
 -- ---- the columns, filled one after the other
 

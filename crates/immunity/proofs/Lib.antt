@@ -1,7 +1,3 @@
-pub mod Search
-pub mod Made
-pub mod Answers
-pub mod Counted
 pub mod Room
-pub mod Tables
+pub mod Marks
 pub mod Columns

@@ -14,7 +14,7 @@ use Rattle.theory.specs.Distance.{differ, faultsOf}
 use Rattle.theory.specs.Computed.{horizon, firstWitness}
 use Rattle.theory.proofs.Faults.{steps-good, steps-rise}
 use Rattle.theory.proofs.Witness.{first-harms}
-use Rattle.immunity.specs.Findings.{roomQuestions}
+use Rattle.witness.specs.Figures.{roomQuestions}
 
 pub room-enough : (limit : ℕ) (m : Monitor) → WellFormed limit m → (d set room : ℕ) → horizon limit ≤ room → {A : Type 0} (values : A)
     → asks (roomQuestions (firstWitness m d set) room) values ≡ answered values

@@ -2,76 +2,25 @@
 use mathlib.Core.List.{List, [], _∷_, _++_}
 use mathlib.Core.Option.{Option, none, some}
 use Prim.Native.Nat.{ℕ, _^_}
-use lib.ListN.{length}
 use Rattle.theory.specs.Answer.{Question, Answer, answered, asks}
-use Rattle.theory.specs.Automaton.{run}
-use Rattle.theory.specs.Extent.{Extent}
 use Rattle.theory.specs.Monitor.{Monitor, reading, monitorability}
-use Rattle.theory.specs.Count.{verdictCount}
 use Rattle.theory.specs.Faults.{kinds}
 use Rattle.theory.specs.Lists.{each}
-use Rattle.theory.specs.Series.{Series, sentTrace, receivedTrace}
+use Rattle.theory.specs.Series.{Series}
 use Rattle.theory.specs.Computed.{firstWitness}
 use Rattle.basics.specs.Refusals.{refusal}
 use Rattle.monitor.specs.Format.{monitorOf}
-use Rattle.monitor.specs.Questions.{tableQuestions, question9, question10, question13}
-use Rattle.faults.specs.Kinds.{bitOf}
-use Rattle.readings.specs.Readings.{counted}
-use Rattle.immunity.specs.declared.Witness.{Witness}
+use Rattle.monitor.specs.Questions.{tableQuestions, question9, question10}
+use Rattle.witness.specs.Figures.{FaultFigures, witnessFigures, witnessTrace, roomQuestions, witnessValues}
 use Rattle.immunity.specs.declared.Finding.{Finding}
 use Rattle.immunity.specs.declared.Finding.the-variants.{Refused, Immune, Vulnerable}
 use Rattle.immunity.specs.declared.Column.{Column}
 use Rattle.immunity.specs.declared.Summary.{Summary}
 use Rattle.immunity.specs.declared.LinkCard.{LinkCard}
 
--- the values of a witness: 01's six numbers, and two counts
-pub record WitnessFigures : Type 0 where
-  pub numbers : List ℕ
-  pub sent-count : Extent
-  pub received-count : Extent
-
--- "The answer has the distance (sent length), the number of messages before the fault, its kind (the fixed bit),
--- the replacement (0 except for corruption) and both readings."
-abbrev pub seriesNumbers : (ℕ → ℕ) → Monitor → Series → List ℕ
-seriesNumbers read m s =
-    length (sentTrace s)
-    ∷ length (s .before)
-    ∷ s .fault .kind
-    ∷ s .fault .replacement
-    ∷ read (run (m .automaton) (m .start) (sentTrace s))
-    ∷ read (run (m .automaton) (m .start) (receivedTrace s))
-    ∷ []
-
--- "Every witness carries the count of its sent and of its received trace as well" (02, note 1): by the marks, whatever
--- is read
-abbrev pub seriesFigures : (ℕ → ℕ) → Monitor → Series → WitnessFigures
-seriesFigures read m s = record {
-  numbers = seriesNumbers read m s;
-  sent-count = verdictCount m (sentTrace s);
-  received-count = verdictCount m (receivedTrace s);
-}
-
--- the values of a fault question: none for immune
-abbrev pub FaultFigures : Type 0
-FaultFigures = Option WitnessFigures
-
--- the values for the first witness, where there is one
-abbrev pub witnessFigures : (ℕ → ℕ) → Monitor → Option Series → FaultFigures
-witnessFigures read m none = none
-witnessFigures read m (some s) = some (seriesFigures read m s)
-
 -- what a table's fault question answers
 abbrev pub tableFigures : Monitor → ℕ → ℕ → FaultFigures
 tableFigures m d set = witnessFigures (reading m d) m (firstWitness m d set)
-
--- "A witness fills the first bytes of the area with the sent trace"; "Immune also writes nothing."
-abbrev pub witnessTrace : Option Series → List ℕ
-witnessTrace none = []
-witnessTrace (some s) = sentTrace s
-
--- 13, of the trace to be written
-abbrev pub roomQuestions : Option Series → ℕ → List Question
-roomQuestions w room = question13 (length (witnessTrace w)) room ∷ []
 
 -- a fault question asks 1 to 8, 9, 10, 13; `room` is the length of the area lent
 abbrev pub faultQuestions : ℕ → ℕ → Option Series → ℕ → List Question
@@ -86,14 +35,6 @@ faultAnswer limit b set d room =
 -- what an answer writes at the front of the area
 abbrev pub faultTrace : List ℕ → ℕ → ℕ → List ℕ
 faultTrace b set d = witnessTrace (firstWitness (monitorOf b) d set)
-
--- the values of a witness, its numbers in 01's order
-abbrev pub witnessValues : Witness → WitnessFigures
-witnessValues w = record {
-  numbers = w .distance ∷ w .before ∷ bitOf (w .kind) ∷ w .replacement ∷ w .sent ∷ w .received ∷ [];
-  sent-count = counted (w .counts .sent);
-  received-count = counted (w .counts .received);
-}
 
 -- 01's number and place of a refusal, or the values of a finding
 abbrev pub finding : Finding → Answer FaultFigures

@@ -1,45 +1,32 @@
 // The fault question: immune, or vulnerable with the first witness; and the card of a table.
 use basics::Refusal;
-use counts::Counts;
-use faults::Fault;
 use faults::FaultSet;
 use faults::KINDS;
-use faults::Kind;
 use monitor::Opened;
 use monitor::Shape;
-use pairs::NEVER;
+use pairs::Test;
 use theory::SQUARE_SIZE;
 use theory::STATE_LIMIT;
+use witness::Outcome;
+use witness::WITNESS_ROOM;
+use witness::Witness;
 ghost use mathlib.Core.Path.{_≡_};
 ghost use mathlib.Core.List.{[], _∷_};
-ghost use mathlib.Core.Option.{some};
 ghost use Prim.Native.Nat.{_<_};
-ghost use lib.ListN.{length, getD};
+ghost use lib.ListN.{length};
 ghost use Rattle.theory.specs.Lists.{each};
-ghost use Rattle.theory.specs.Answer.{answered, asks, written};
+ghost use Rattle.theory.specs.Answer.{answered, written};
 ghost use Rattle.theory.specs.Monitor.{stateLimit};
 ghost use Rattle.theory.specs.Faults.{kinds};
-ghost use Rattle.theory.specs.Series.{Series};
-ghost use Rattle.theory.specs.Computed.{horizon, firstWitness};
+ghost use Rattle.theory.specs.Computed.{horizon};
 ghost use Rattle.basics.specs.Refusals.{refusal};
 ghost use Rattle.monitor.specs.Opening.{monitorIn, TableIn};
-ghost use Rattle.pairs.specs.Square.{Squared, differing};
-ghost use Rattle.immunity.specs.Findings.{seriesFigures, witnessTrace, roomQuestions, faultQuestions};
-ghost use Rattle.immunity.specs.Findings.{tableFigures, faultAnswer, faultTrace, witnessValues, finding};
+ghost use Rattle.pairs.specs.declared.Test.the-variants.{Differ};
+ghost use Rattle.pairs.specs.Square.{Squared, passing};
+ghost use Rattle.witness.specs.Figures.{outcome};
+ghost use Rattle.witness.specs.Search.{automatonIn};
+ghost use Rattle.immunity.specs.Findings.{faultAnswer, faultTrace, finding};
 ghost use Rattle.immunity.specs.Findings.{columnFigures, cardAsking, cardAnswer, found, carded};
-ghost use Rattle.immunity.specs.Search.{firstOf, answerOf, Posed, Ready, Makes, SentInto, automatonIn};
-
-// A witness whose sent trace stands in the area: its length, the symbols before the fault, the fault's kind, the
-// replacement, what the sent and the received trace read, and after how many symbols of each its verdict falls.
-pub struct Witness {
-    pub distance: usize,
-    pub before: usize,
-    pub kind: Kind,
-    pub replacement: usize,
-    pub sent: usize,
-    pub received: usize,
-    pub counts: Counts,
-}
 
 pub enum Finding {
     Refused(Refusal),
@@ -68,182 +55,15 @@ pub struct LinkCard {
     pub columns: [Column; KINDS],
 }
 
-// A harmful series as the search makes it: the length of its sent trace, the symbols before the fault, the fault step,
-// and what the sent and the received trace read.
-struct Harm {
-    distance: usize,
-    before: usize,
-    fault: Fault,
-    sent: usize,
-    received: usize,
-}
-
-// The first harmful series from the start on. Its sent trace goes into the area.
-fn harm_of(
-    outputs: &[u8],
-    square: &[u16; SQUARE_SIZE],
-    costs: &[usize; STATE_LIMIT],
-    totals: &[usize; STATE_LIMIT],
-    nexts: &[u8],
-    t: Shape,
-    set: FaultSet,
-    area: &mut [u8],
-) -> Harm
-    requires { ⌜ Ready t (set .bits) (now outputs) (now square) (now costs) (now totals) (now nexts)
-        (length (now area)) ⌝ }
-    ensures series { λ r. ⌜ ((s : Series) → firstOf t (now (outputs .entry)) (now (nexts .entry)) (set .bits) ≡ some s
-        → Makes (automatonIn t (now (nexts .entry))) (t .start) (now (outputs .entry)) s r) ⌝ }
-    ensures area { λ _. ⌜ SentInto (firstOf t (now (outputs .entry)) (now (nexts .entry)) (set .bits))
-        (now (area .entry)) (now (area .exit)) ⌝ }
+// A finding is what the outcome says of immunity.
+fn finding_of(found: Outcome) -> Finding
+    ensures { λ r. ⌜ finding r ≡ outcome found ⌝ }
 {
-    let n = t.states;
-    let k = t.symbols;
-    let start = t.start;
-    let approach = totals::write_before(totals, costs, nexts, n, k, start, area);
-    let state = approach.state;
-    let count = approach.count;
-    let fault = faults::fault_with(square, nexts, n, k, set, state, costs[state]);
-    faults::write_symbols(fault.sent, area, count);
-    let p = faults::after(nexts, n, k, state, fault.sent);
-    let q = faults::after(nexts, n, k, state, fault.received);
-    let at = count + fault.sent.count;
-    let end = pairs::write_apart(square, nexts, n, k, p, q, area, at);
-    let sent = end.sent;
-    let received = end.received;
-    Harm {
-        distance: totals[start],
-        before: count,
-        fault,
-        sent: outputs[sent] as usize,
-        received: outputs[received] as usize,
+    match found {
+        Outcome::Refused(r) => Finding::Refused(r),
+        Outcome::None => Finding::Immune,
+        Outcome::Found(w) => Finding::Vulnerable(w),
     }
-}
-
-// The first witness from the start on, with the counts of its traces. Its sent trace goes into the area.
-fn witness_of(
-    marks: &[u8],
-    outputs: &[u8],
-    square: &[u16; SQUARE_SIZE],
-    costs: &[usize; STATE_LIMIT],
-    totals: &[usize; STATE_LIMIT],
-    nexts: &[u8],
-    t: Shape,
-    set: FaultSet,
-    area: &mut [u8],
-) -> Witness
-    requires { ⌜ TableIn t marks nexts
-        × Ready t (set .bits) (now outputs) (now square) (now costs) (now totals) (now nexts) (length (now area)) ⌝ }
-    ensures figures { λ r. ⌜ ((s : Series) → firstOf t (now (outputs .entry)) (now (nexts .entry)) (set .bits) ≡ some s
-        → witnessValues r
-        ≡ seriesFigures (λ q. getD (now (outputs .entry)) q 0) (monitorIn t (marks .entry) (nexts .entry)) s) ⌝ }
-    ensures area { λ _. ⌜ SentInto (firstOf t (now (outputs .entry)) (now (nexts .entry)) (set .bits))
-        (now (area .entry)) (now (area .exit)) ⌝ }
-{
-    let harm = harm_of(outputs, square, costs, totals, nexts, t, set, area);
-    let fault = harm.fault;
-    let kind = fault.kind;
-    let trace = basics::part(area, 0, harm.distance);
-    let counts = counts::counts_of(marks, nexts, t, trace, harm.before, fault);
-    Witness {
-        distance: harm.distance,
-        before: harm.before,
-        kind,
-        replacement: fault.replacement,
-        sent: harm.sent,
-        received: harm.received,
-        counts,
-    }
-}
-
-// The finding for one fault set, from what all sets of a table and a reading share.
-fn examine_set(
-    marks: &[u8],
-    outputs: &[u8],
-    square: &[u16; SQUARE_SIZE],
-    nexts: &[u8],
-    t: Shape,
-    set: FaultSet,
-    area: &mut [u8],
-) -> Finding
-    requires { ⌜ TableIn t marks nexts
-        × Posed t (now outputs) (now square) (now nexts) ⌝ }
-    ensures figures { λ r. ⌜ finding r
-        ≡ answerOf t (now (marks .entry)) (now (outputs .entry)) (now (nexts .entry)) (set .bits)
-        (length (now (area .entry))) ⌝ }
-    ensures area { λ r. ⌜ now (area .exit)
-        ≡ written (finding r) (witnessTrace (firstOf t (now (outputs .entry)) (now (nexts .entry)) (set .bits)))
-        (now (area .entry)) ⌝ }
-{
-    let start = t.start;
-    let costs = faults::costs(square, nexts, t.states, t.symbols, set);
-    let mut totals = costs;
-    totals::relax(&mut totals, nexts, t.states, t.symbols);
-    let distance = totals[start];
-    if distance == NEVER {
-        return Finding::Immune;
-    }
-    if area.len() < distance {
-        return Finding::Refused(Refusal {
-            number: 13,
-            place: 0,
-        });
-    }
-    Finding::Vulnerable(witness_of(marks, outputs, square, &costs, &totals, nexts, t, set, area))
-}
-
-// The finding for a table under a reading.
-fn examine_reading(
-    marks: &[u8],
-    nexts: &[u8],
-    t: Shape,
-    set: FaultSet,
-    domain: usize,
-    area: &mut [u8],
-) -> Finding
-    requires { ⌜ TableIn t marks nexts ⌝ }
-    ensures figures { λ r. let m = monitorIn t (marks .entry) (nexts .entry) in ⌜ finding r
-        ≡ asks (roomQuestions (firstWitness m domain (set .bits)) (length (now (area .entry))))
-        (tableFigures m domain (set .bits)) ⌝ }
-    ensures area { λ r. let m = monitorIn t (marks .entry) (nexts .entry) in ⌜ now (area .exit)
-        ≡ written (finding r) (witnessTrace (firstWitness m domain (set .bits))) (now (area .entry)) ⌝ }
-{
-    let n = t.states;
-    let mut outputs = [0u8; STATE_LIMIT];
-    readings::write_readings(marks, nexts, t, domain, &mut outputs);
-    let read = &outputs[..n];
-    let square = pairs::distances(nexts, n, t.symbols, read);
-    examine_set(marks, read, &square, nexts, t, set, area)
-}
-
-// The finding for an opened table: questions 9 and 10, and the set that the number stands for.
-fn examine_table(
-    marks: &[u8],
-    nexts: &[u8],
-    t: Shape,
-    set: usize,
-    domain: usize,
-    area: &mut [u8],
-) -> Finding
-    requires { ⌜ TableIn t marks nexts ⌝ }
-    ensures figures { λ r. let m = monitorIn t (marks .entry) (nexts .entry) in ⌜ finding r
-        ≡ asks (faultQuestions set domain (firstWitness m domain set) (length (now (area .entry))))
-        (tableFigures m domain set) ⌝ }
-    ensures area { λ r. let m = monitorIn t (marks .entry) (nexts .entry) in ⌜ now (area .exit)
-        ≡ written (finding r) (witnessTrace (firstWitness m domain set)) (now (area .entry)) ⌝ }
-{
-    if set > FaultSet::ALL {
-        return Finding::Refused(Refusal {
-            number: 9,
-            place: 0,
-        });
-    }
-    if !readings::is_reading(domain) {
-        return Finding::Refused(Refusal {
-            number: 10,
-            place: 0,
-        });
-    }
-    examine_reading(marks, nexts, t, FaultSet::of(set), domain, area)
 }
 
 // The fault question: whether one fault of the set can change what a trace of the table reads, by marks (domain 3) or
@@ -255,25 +75,8 @@ pub fn examine(body: &[u8], set: usize, domain: usize, area: &mut [u8]) -> Findi
         ≡ written (faultAnswer stateLimit (now (body .entry)) set domain (length (now (area .entry))))
         (faultTrace (now (body .entry)) set domain) (now (area .entry)) ⌝ }
 {
-    let mut marks = [0u8; STATE_LIMIT];
-    match monitor::open(body, &mut marks) {
-        Opened::Refused(r) => Finding::Refused(r),
-        Opened::Table(t) => {
-            let n = t.states;
-            examine_table(
-                &marks[..n],
-                monitor::next_states(body),
-                t,
-                set,
-                domain,
-                area,
-            )
-        }
-    }
+    finding_of(witness::first_witness(body, set, domain, Test::Differ, area))
 }
-
-// As many bytes as the longest witness can have by the bound that is proved.
-pub const WITNESS_ROOM: usize = SQUARE_SIZE + STATE_LIMIT + 2;
 
 // An area long enough for every witness.
 fn scratch() -> [u8; WITNESS_ROOM]
@@ -292,7 +95,7 @@ fn column_of(
     area: &mut [u8],
 ) -> Column
     requires { ⌜ TableIn t marks nexts
-        × Squared (automatonIn t (now nexts)) (differing (now marks)) (now square)
+        × Squared (automatonIn t (now nexts)) (passing Differ (now marks)) (now square)
         × (rank < kinds)
         × (length (now area) ≡ horizon stateLimit) ⌝ }
     ensures column { λ r. ⌜ finding (r .finding)
@@ -300,14 +103,16 @@ fn column_of(
     ensures area { λ _. ⌜ length (now (area .exit)) ≡ horizon stateLimit ⌝ }
 {
     let set = FaultSet::empty().with(faults::kind_at(rank));
-    let finding = examine_set(marks, marks, square, nexts, t, set, area);
-    Column { finding }
+    let found = witness::find_first(marks, marks, square, nexts, t, set, area);
+    Column {
+        finding: finding_of(found),
+    }
 }
 
 // The columns of a table: each fault alone, in the written order, all from one square.
 fn columns_of(marks: &[u8], square: &[u16; SQUARE_SIZE], nexts: &[u8], t: Shape) -> [Column; KINDS]
     requires { ⌜ TableIn t marks nexts
-        × Squared (automatonIn t (now nexts)) (differing (now marks)) (now square) ⌝ }
+        × Squared (automatonIn t (now nexts)) (passing Differ (now marks)) (now square) ⌝ }
     ensures { λ r. ⌜ found r ≡ cardAsking [] (monitorIn t (marks .entry) (nexts .entry)) .columns ⌝ }
 {
     let mut area = scratch();
@@ -331,7 +136,7 @@ fn card_of(marks: &[u8], nexts: &[u8], t: Shape) -> LinkCard
         states: t.states,
         monitorability: classes::monitorability_of(marks, nexts, t),
     };
-    let square = pairs::distances(nexts, t.states, t.symbols, marks);
+    let square = pairs::distances(nexts, t.states, t.symbols, marks, Test::Differ);
     let columns = columns_of(marks, &square, nexts, t);
     LinkCard { summary, columns }
 }

@@ -22,7 +22,8 @@ use Rattle.immunity.specs.declared.Column.{Column}
 use Rattle.immunity.specs.declared.Finding.{Finding}
 use Rattle.immunity.specs.declared.Summary.{Summary}
 use Rattle.immunity.specs.declared.LinkCard.{LinkCard}
-use Rattle.immunity.specs.Findings.{FaultFigures, witnessFigures, tableFigures, finding, found}
+use Rattle.witness.specs.Figures.{FaultFigures, witnessFigures}
+use Rattle.immunity.specs.Findings.{tableFigures, finding, found}
 use Rattle.immunity.specs.Findings.{summaryFigures, columnFigures, CardAnswer, cardAsking, cardAnswer, summarised, carded}
 use Rattle.immunity.proofs.Columns.{card-asks}
 use Rattle.lines.specs.Text.{ascii, decimal}

@@ -9,7 +9,7 @@ use types.Run.{OneOf}
 use lib.ListN.{length}
 use borrow.Author.Tests.{ne-eqb}
 use Rattle.immunity.specs.declared.Finding.{Finding}
-use Rattle.immunity.specs.declared.Witness.{Witness}
+use Rattle.witness.specs.declared.Witness.{Witness}
 use Rattle.immunity.proofs.Finding as the-finding
 use Rattle.lines.specs.Text.{ascii}
 use Rattle.lines.specs.Line.{monitorabilityText, findingText, Put}

@@ -14,7 +14,7 @@ ghost use Rattle.theory.specs.Monitor.{stateLimit};
 ghost use Rattle.lines.specs.Text.{ascii, decimal};
 ghost use Rattle.theory.specs.Faults.{kinds};
 ghost use Rattle.basics.specs.Refusals.{lengthWritten};
-ghost use Rattle.immunity.specs.declared.Witness.{Witness};
+ghost use Rattle.witness.specs.declared.Witness.{Witness};
 ghost use Rattle.lines.specs.Line.{spaced, monitorabilityText, findingText, columnTexts, shownLine, refusalLine};
 ghost use Rattle.lines.specs.Line.{ruleLine, lineAnswer, lineRoom, Put};
 

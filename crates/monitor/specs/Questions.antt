@@ -88,6 +88,10 @@ question12 k w = ofEach 12 0 (firstNotBelow k w) (length w)
 abbrev pub question13 : ℕ → ℕ → Question
 question13 size room = record { yes = leb size room; number = 13; place = 0 }
 
+-- "a verdict that is not of the chosen reading is 19 at place 0" (02, note 3): a mark is below 3, a class below 6
+abbrev pub question19 : ℕ → ℕ → Question
+question19 d v = record { yes = ltb v d; number = 19; place = 0 }
+
 -- questions 1 to 5 are about sizes and the start, 6 to 8 about marks and next states
 abbrev pub headQuestions : ℕ → List ℕ → List Question
 headQuestions limit b = question1 b ∷ question2 limit b ∷ question3 b ∷ question4 b ∷ question5 b ∷ []

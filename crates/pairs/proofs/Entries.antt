@@ -10,7 +10,8 @@ use lib.ListN.{length, replicate, length-set, length-replicate, getD-replicate}
 use lib.Seq.{getD-set-same, getD-set-other}
 use Rattle.theory.specs.Monitor.{stateLimit}
 use Rattle.theory.proofs.Below.{lt-or-le}
-use Rattle.pairs.specs.Square.{never, squareSize, place, entry, stored, differing, firstEntry, apartAtOnce, Blank, Entered, Fresh}
+use Rattle.pairs.specs.declared.Test.{Test}
+use Rattle.pairs.specs.Square.{never, squareSize, place, entry, stored, passing, firstEntry, apartAtOnce, Blank, Entered, Fresh}
 
 -- ---- places of the square
 
@@ -50,25 +51,25 @@ row-done n p q x y m e ly l = omega arith
 pub blank-filled : Blank (replicate squareSize never)
 blank-filled = record { size = length-replicate {A = ℕ} squareSize never; filled = λ i l. getD-replicate {A = ℕ} squareSize i never 0 l }
 
-module _ {outs : List ℕ} (m : length outs ≤ stateLimit) where
-  pub entered-none : {square : List ℕ} → Blank square → Entered outs 0 square
+module _ {test : Test} {outs : List ℕ} (m : length outs ≤ stateLimit) where
+  pub entered-none : {square : List ℕ} → Blank square → Entered test outs 0 square
   entered-none b = record { size = b .size; done = λ p q lp lq l. absurd (omega arith); rest = λ p q lp lq _. b .filled (place p q) (omega arith) }
 
-  pub entered-turn : (p q : ℕ) → p < length outs → q < length outs → {square e : List ℕ} → Entered outs (place p q) square
-      → e ≡ stored square p q 0 (differing outs p q)
-      → Entered outs (place p (q + 1)) e
+  pub entered-turn : (p q : ℕ) → p < length outs → q < length outs → {square e : List ℕ} → Entered test outs (place p q) square
+      → e ≡ stored square p q 0 (passing test outs p q)
+      → Entered test outs (place p (q + 1)) e
   entered-turn p q lp lq {square} b h =
-      let u = differing outs p q in
+      let u = passing test outs p q in
       rw h (record {
         size = stored-size square (b .size) p q 0 u;
-        done = one-more (λ x y. entry (stored square p q 0 u) x y ≡ firstEntry outs x y) (length outs) p q m lq
+        done = one-more (λ x y. entry (stored square p q 0 u) x y ≡ firstEntry test outs x y) (length outs) p q m lq
             (λ x y lx ly l. stored-elsewhere square (b .size) p q 0 u x y (λ h. omega arith) ∙ b .done x y lx ly l)
             (stored-here square (b .size) p q 0 (omega arith) (omega arith) u ∙ ap (cond u 0) (b .rest p q lp lq (omega arith)));
         rest = λ x y lx ly l. stored-elsewhere square (b .size) p q 0 u x y (λ h. omega arith) ∙ b .rest x y lx ly (omega arith);
       })
 
-  pub entered-row : {square : List ℕ} (p q : ℕ) → Entered outs (place p q) square → q ≤ length outs → length outs ≤ q
-      → Entered outs ((p + 1) * stateLimit) square
+  pub entered-row : {square : List ℕ} (p q : ℕ) → Entered test outs (place p q) square → q ≤ length outs → length outs ≤ q
+      → Entered test outs ((p + 1) * stateLimit) square
   entered-row p q b u e = record {
     size = b .size;
     done = λ x y lx ly l. b .done x y lx ly (row-done (length outs) p q x y m e ly l);
@@ -76,23 +77,23 @@ module _ {outs : List ℕ} (m : length outs ≤ stateLimit) where
   }
 
   -- all rows are done
-  module _ {n : ℕ} (same : length outs ≡ n) {square : List ℕ} (b : Entered outs (length outs * stateLimit) square) (p q : ℕ) (lp : p < n) (lq : q < n) where
-    known : entry square p q ≡ firstEntry outs p q
+  module _ {n : ℕ} (same : length outs ≡ n) {square : List ℕ} (b : Entered test outs (length outs * stateLimit) square) (p q : ℕ) (lp : p < n) (lq : q < n) where
+    known : entry square p q ≡ firstEntry test outs p q
     known = b .done p q (omega arith) (omega arith) (omega arith)
 
     entered-either : (entry square p q ≡ 0) ⊎ (entry square p q ≡ never)
-    entered-either = go (differing outs p q) known
+    entered-either = go (passing test outs p q) known
       where
         go : {e : ℕ} (t : Bool) → e ≡ cond t 0 never → (e ≡ 0) ⊎ (e ≡ never)
         go true h = inl h
         go false h = inr h
 
-    pub at-once-differing : apartAtOnce square p q ≡ differing outs p q
-    at-once-differing = ap (λ (e : ℕ). eqb e 0) known ∙ go (differing outs p q)
+    pub at-once-passing : apartAtOnce square p q ≡ passing test outs p q
+    at-once-passing = ap (λ (e : ℕ). eqb e 0) known ∙ go (passing test outs p q)
       where
         go : (t : Bool) → eqb (cond t 0 never) 0 ≡ t
         go true = refl
         go false = refl
 
-  pub entered-fresh : {n : ℕ} → length outs ≡ n → {square : List ℕ} → Entered outs (length outs * stateLimit) square → Fresh n square
+  pub entered-fresh : {n : ℕ} → length outs ≡ n → {square : List ℕ} → Entered test outs (length outs * stateLimit) square → Fresh n square
   entered-fresh same b = record { size = b .size; either = entered-either same b }

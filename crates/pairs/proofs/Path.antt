@@ -1,5 +1,5 @@
 -- The first of the shortest traces that tell two states apart, read off the square.
-use mathlib.Core.Path.{_≡_, refl, ap, _∙_}
+use mathlib.Core.Path.{_≡_, refl, sym, ap, _∙_}
 use mathlib.Core.Bool.{Bool, true, false, cond}
 use mathlib.Core.List.{List, [], _∷_, map}
 use mathlib.Core.Logic.{⊎-elim}
@@ -15,11 +15,12 @@ use Rattle.theory.specs.Lists.{find}
 use Rattle.theory.specs.Series.{words}
 use Rattle.theory.specs.Extent.{number, missing, ShortestLength}
 use Rattle.theory.specs.Pairs.{Tells, PairDistance}
-use Rattle.theory.proofs.Below.{clash, not-clash, lt-or-le, first-below, first-here}
+use Rattle.theory.proofs.Below.{clash, not-clash, both-ways, lt-or-le, first-below, first-here}
 use Rattle.theory.proofs.Lists.{find-none, find-each, find-map, find-map-none}
 use Rattle.theory.proofs.Series.{words-in}
 use Rattle.theory.proofs.Pairs.{tells-step, tells-rest, tells-ends}
-use Rattle.pairs.specs.Square.{never, entry, extent, Noted, Squared, nearer, Falling, path}
+use Rattle.pairs.specs.Square.{never, entry, extent, Noted, Squared, apartAtOnce, nearer, Falling, path}
+use Rattle.pairs.proofs.Rounds.{squared-same}
 
 -- a list with the property is at least as long as noted
 pub noted-least : {P : List ℕ → Type 0} {e : ℕ} → Noted P e → (w : List ℕ) → P w → e ≤ length w
@@ -37,6 +38,25 @@ noted-extent {P} e s = go (eqb e never) refl
 pub square-exact : {g : Automaton} {ends : ℕ → ℕ → Bool} {square : List ℕ} → Squared g ends square → (p q : ℕ) → p < g .states → q < g .states
     → PairDistance g ends p q (extent (entry square p q))
 square-exact {square = square} s p q lp lq = noted-extent (entry square p q) (s .noted p q lp lq)
+
+-- what the square has at 0 are the pairs that pass the test
+pub at-once : {g : Automaton} {ends : ℕ → ℕ → Bool} {square : List ℕ} → Squared g ends square → (p q : ℕ) → p < g .states → q < g .states
+    → apartAtOnce square p q ≡ ends p q
+unfolding Trace run
+at-once {g} {ends} {square} s p q lp lq = both-ways (λ h. (let e = eqb-true (entry square p q) 0 h in
+    let w = here .found (omega (arith, e)) in go (w .word) (w .long ∙ e) (w .has)))
+    (λ h. (let l = noted-least here [] (record { trace = tt; apart = h }) in eq-eqb (entry square p q) 0 (omega (arith, l))))
+  where
+    here : Noted (Tells g ends p q) (entry square p q)
+    here = s .noted p q lp lq
+
+    go : (w : List ℕ) → length w ≡ 0 → Tells g ends p q w → ends p q ≡ true
+    go [] el t = tells-ends g ends p q t
+    go (a ∷ w) el t = absurd (omega arith)
+
+-- so it is the square of that test of two states
+pub squared-at-once : {g : Automaton} {ends : ℕ → ℕ → Bool} {square : List ℕ} → Closed g → Squared g ends square → Squared g (apartAtOnce square) square
+squared-at-once c s = squared-same c (λ p q lp lq. sym (at-once s p q lp lq)) s
 
 module _ (g : Automaton) (square : List ℕ) (e p q : ℕ) where
   -- the symbol leads from p and q to a pair with the entry e

@@ -12,6 +12,8 @@ use Rattle.theory.specs.Automaton.{Automaton}
 use Rattle.theory.specs.Monitor.{stateLimit}
 use Rattle.theory.specs.Extent.{Extent, number, missing, Shortest}
 use Rattle.theory.specs.Pairs.{Tells, told}
+use Rattle.pairs.specs.declared.Test.{Test}
+use Rattle.pairs.specs.declared.Test.the-variants.{Differ, Misread}
 
 -- "not told apart"
 abbrev pub never : ℕ
@@ -49,6 +51,15 @@ pub record Squared (g : Automaton) (ends : ℕ → ℕ → Bool) (square : List 
   pub size : length square ≡ squareSize
   pub noted : (p q : ℕ) → p < g .states → q < g .states → Noted (Tells g ends p q) (entry square p q)
 
+-- what a test says of the output after the sent trace and the output after the received one
+abbrev pub passes : Test → ℕ → ℕ → Bool
+passes Differ sent received = not (eqb sent received)
+passes (Misread v) sent received = eqb received v && not (eqb sent v)
+
+-- what it says of the states p, after the sent trace, and q, after the received one
+abbrev pub passing : Test → List ℕ → ℕ → ℕ → Bool
+passing test outs p q = passes test (getD outs p 0) (getD outs q 0)
+
 -- two states told apart within r + 1 symbols and not within r
 pub record New (g : Automaton) (ends : ℕ → ℕ → Bool) (r : ℕ) : Type 0 where
   pub first : ℕ
@@ -65,13 +76,9 @@ pub record Rounds (g : Automaton) (ends : ℕ → ℕ → Bool) (r : ℕ) : Type
 
 -- ---- what the functions below require of each other
 
--- two states whose outputs differ
-abbrev pub differing : List ℕ → ℕ → ℕ → Bool
-differing outs p q = not (eqb (getD outs p 0) (getD outs q 0))
-
 -- the entry of a pair before the first round, by its outputs
-abbrev pub firstEntry : List ℕ → ℕ → ℕ → ℕ
-firstEntry outs p q = cond (differing outs p q) 0 never
+abbrev pub firstEntry : Test → List ℕ → ℕ → ℕ → ℕ
+firstEntry test outs p q = cond (passing test outs p q) 0 never
 
 -- some symbol leads from p and q to a pair told apart within r
 abbrev pub leadsWithin : Automaton → List ℕ → ℕ → ℕ → ℕ → Bool
@@ -88,9 +95,9 @@ pub record Blank (square : List ℕ) : Type 0 where
 
 -- the square before the first round: the pairs before place i (row by row) are as their outputs say, the others as
 -- filled
-pub record Entered (outs : List ℕ) (i : ℕ) (square : List ℕ) : Type 0 where
+pub record Entered (test : Test) (outs : List ℕ) (i : ℕ) (square : List ℕ) : Type 0 where
   pub size : length square ≡ squareSize
-  pub done : (p q : ℕ) → p < length outs → q < length outs → place p q < i → entry square p q ≡ firstEntry outs p q
+  pub done : (p q : ℕ) → p < length outs → q < length outs → place p q < i → entry square p q ≡ firstEntry test outs p q
   pub rest : (p q : ℕ) → p < length outs → q < length outs → i ≤ place p q → entry square p q ≡ never
 
 -- the pair is told apart by no symbol at all: it is at 0

@@ -8,7 +8,7 @@ ghost use lib.Seq.{sets};
 ghost use Rattle.theory.specs.Automaton.{run};
 ghost use Rattle.theory.specs.Monitor.{stateLimit};
 ghost use Rattle.monitor.specs.Format.{Rows, graph};
-ghost use Rattle.pairs.specs.Square.{never, entry, stored, Squared, Rounds, differing, Blank, Entered};
+ghost use Rattle.pairs.specs.Square.{never, entry, stored, Squared, Rounds, passes, passing, Blank, Entered};
 ghost use Rattle.pairs.specs.Square.{apartAtOnce, Fresh, leadsWithin, adds, RoundGoesOn, nearer, Falling, apart};
 
 // Not told apart. Any smaller number counts symbols.
@@ -22,6 +22,25 @@ const NEVER_ENTRY: u16 = NEVER as u16;
 pub struct Pair {
     pub sent: usize,
     pub received: usize,
+}
+
+// What tells two states apart, by the outputs after the sent and after the received trace.
+pub enum Test {
+    // They differ.
+    Differ,
+    // The received one is this, and the sent one is another.
+    Misread(usize),
+}
+
+impl Test {
+    fn passes(self, sent: u8, received: u8) -> bool
+        ensures { λ r. ⌜ r ≡ passes self sent received ⌝ }
+    {
+        match self {
+            Test::Differ => sent != received,
+            Test::Misread(v) => received as usize == v && sent as usize != v,
+        }
+    }
 }
 
 // The square filled with "not told apart".
@@ -49,43 +68,43 @@ pub fn entry_at(square: &[u16; SQUARE_SIZE], p: usize, q: usize) -> usize
     wide(square[p * STATE_LIMIT + q])
 }
 
-// Enters 0 for p and q where their outputs differ.
-fn enter_pair(square: &mut [u16; SQUARE_SIZE], outputs: &[u8], p: usize, q: usize)
+// Enters 0 for p and q where their outputs pass the test.
+fn enter_pair(square: &mut [u16; SQUARE_SIZE], outputs: &[u8], test: Test, p: usize, q: usize)
     requires { ⌜ (length (now outputs) ≤ stateLimit)
         × (p < length (now outputs))
         × (q < length (now outputs)) ⌝ }
-    ensures { λ _. ⌜ now (square .exit) ≡ stored (now (square .entry)) p q 0 (differing (now (outputs .entry)) p q) ⌝ }
+    ensures { λ _. ⌜ now (square .exit) ≡ stored (now (square .entry)) p q 0
+        (passing test (now (outputs .entry)) p q) ⌝ }
 {
-    if outputs[p] == outputs[q] {
-        return;
+    if test.passes(outputs[p], outputs[q]) {
+        square[p * STATE_LIMIT + q] = 0;
     }
-    square[p * STATE_LIMIT + q] = 0;
 }
 
 // Enters 0 in row p for each state whose output differs from that of p.
-fn enter_row(square: &mut [u16; SQUARE_SIZE], outputs: &[u8], p: usize)
+fn enter_row(square: &mut [u16; SQUARE_SIZE], outputs: &[u8], test: Test, p: usize)
     requires { ⌜ (length (now outputs) ≤ stateLimit)
         × (p < length (now outputs))
-        × Entered (now outputs) (p * stateLimit) (now square) ⌝ }
-    ensures { λ _. ⌜ Entered (now (outputs .entry)) ((p + 1) * stateLimit) (now (square .exit)) ⌝ }
+        × Entered test (now outputs) (p * stateLimit) (now square) ⌝ }
+    ensures { λ _. ⌜ Entered test (now (outputs .entry)) ((p + 1) * stateLimit) (now (square .exit)) ⌝ }
 {
     let mut q = 0;
     while q < outputs.len() {
-        enter_pair(square, outputs, p, q);
+        enter_pair(square, outputs, test, p, q);
         q += 1;
     }
 }
 
 // The square before the first round: states whose outputs differ are told apart by no symbol.
-fn enter_outputs(square: &mut [u16; SQUARE_SIZE], outputs: &[u8])
+fn enter_outputs(square: &mut [u16; SQUARE_SIZE], outputs: &[u8], test: Test)
     requires { ⌜ (length (now outputs) ≤ stateLimit)
         × Blank (now square) ⌝ }
-    ensures { λ _. ⌜ Entered (now (outputs .entry))
+    ensures { λ _. ⌜ Entered test (now (outputs .entry))
         (length (now (outputs .entry)) * stateLimit) (now (square .exit)) ⌝ }
 {
     let mut p = 0;
     while p < outputs.len() {
-        enter_row(square, outputs, p);
+        enter_row(square, outputs, test, p);
         p += 1;
     }
 }
@@ -208,14 +227,14 @@ fn refine(square: &mut [u16; SQUARE_SIZE], nexts: &[u8], n: usize, k: usize) -> 
     r as usize
 }
 
-// The distance of every two states: the fewest symbols after which their outputs differ.
-pub fn distances(nexts: &[u8], n: usize, k: usize, outputs: &[u8]) -> [u16; SQUARE_SIZE]
+// The distance of every two states: the fewest symbols after which their outputs pass the test.
+pub fn distances(nexts: &[u8], n: usize, k: usize, outputs: &[u8], test: Test) -> [u16; SQUARE_SIZE]
     requires { ⌜ Rows stateLimit n k (now nexts)
         × (length (now outputs) ≡ n) ⌝ }
-    ensures { λ r. ⌜ Squared (graph n k (nexts .entry)) (differing (now (outputs .entry))) r ⌝ }
+    ensures { λ r. ⌜ Squared (graph n k (nexts .entry)) (passing test (now (outputs .entry))) r ⌝ }
 {
     let mut square = blank();
-    enter_outputs(&mut square, outputs);
+    enter_outputs(&mut square, outputs, test);
     refine(&mut square, nexts, n, k);
     square
 }

@@ -6,12 +6,12 @@ use classes::Classification;
 use collection::Collected;
 use faults::FaultSet;
 use immunity::Finding;
-use immunity::Witness;
 use monitor::Judgement;
 use output::Output;
 use readings::Count;
 use readings::Stepped;
 use readings::Traced;
+use witness::Witness;
 
 // A refusal, as `refused`, its number and its place.
 pub fn refusal(out: Output, r: Refusal) -> Output {

@@ -234,9 +234,11 @@ module _ (limit : ℕ) (m : Monitor) (w : WellFormed limit m) where
       let l′ = s .long in
       omega (arith, a, b, c, l′)
 
+-- of two series that are each the other or before it, both are one
+pub first-alone : (s t : Series) → (t ≡ s) ⊎ Precedes s t → (s ≡ t) ⊎ Precedes t s → s ≡ t
+first-alone s t a b =
+    ⊎-elim (λ (e : t ≡ s). sym e) (λ p. ⊎-elim (λ (e : s ≡ t). e) (λ q. absurd (precedes-not-itself s (precedes-then s t s p q))) b) a
+
 -- there is only one first witness
 pub first-only : (m : Monitor) (d set : ℕ) (s t : Series) → FirstWitness m d set s → FirstWitness m d set t → s ≡ t
-first-only m d set s t a b =
-    ⊎-elim (λ (e : t ≡ s). sym e)
-    (λ p. ⊎-elim (λ (e : s ≡ t). e) (λ q. absurd (precedes-not-itself s (precedes-then s t s p q))) (b .first s (a .witness)))
-    (a .first t (b .witness))
+first-only m d set s t a b = first-alone s t (a .first t (b .witness)) (b .first s (a .witness))

@@ -15,3 +15,4 @@ pub mod Faults
 pub mod Witness
 pub mod Extent
 pub mod Distance
+pub mod Trust

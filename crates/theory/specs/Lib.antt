@@ -9,4 +9,5 @@ pub mod Pairs
 pub mod Faults
 pub mod Series
 pub mod Distance
+pub mod Trust
 pub mod Computed

@@ -2,7 +2,7 @@
 use native.Mathlib.Omega.{arith}
 use borrow.Author.Needs.{needs}
 use Rattle.monitor.proofs.Rows.{next-of-rows}
-use Rattle.pairs.proofs.Entries.{at-once-differing, entered-fresh}
+use Rattle.pairs.proofs.Entries.{at-once-passing, entered-fresh}
 use Rattle.pairs.proofs.Rounds.{squared-same}
 use Rattle.pairs.proofs.distances.Statement.{statement}
 use Rattle.pairs.proofs.distances.Tie as tie
@@ -15,7 +15,7 @@ refine-requires c κs =
 returns : tie.Need-returns
 returns c =
     let pre = c .before .before .before .before .before .before .before .pre in
-    squared-same (next-of-rows (pre .0)) (at-once-differing (omega (arith, pre .0 .states-most, pre .1)) (pre .1) (c .before .before .enter-outputs .ensures))
+    squared-same (next-of-rows (pre .0)) (at-once-passing (omega (arith, pre .0 .states-most, pre .1)) (pre .1) (c .before .before .enter-outputs .ensures))
     (c .refine .ensures .0)
 
 pub distances-spec : {M : Type 1} → statement M

@@ -10,10 +10,10 @@ use Rattle.pairs.proofs.enter_row.Statement.{statement}
 use Rattle.pairs.proofs.enter_row.Tie as tie
 
 abbrev Inv-loop : tie.InvT-loop
-Inv-loop square₀ outputs p q₀ square q = (q ≤ length outputs) × Entered outputs (p * stateLimit + q) square
+Inv-loop square₀ outputs test p q₀ square q = (q ≤ length outputs) × Entered test outputs (p * stateLimit + q) square
 
 abbrev μ-loop : tie.MeasureT-loop
-μ-loop square₀ outputs p q₀ square q = length outputs - q
+μ-loop square₀ outputs test p q₀ square q = length outputs - q
 
 loop-holds : tie.Need-loop-holds Inv-loop μ-loop
 loop-holds c = (search needs, rw (add-zero _) (c .before .pre .2))

@@ -1,0 +1,42 @@
+-- Which verdicts can be believed (02, note 3) as one claim about an accepted table, a fault set, a reading and a verdict.
+use mathlib.Core.Path.{_≡_}
+use mathlib.Core.List.{List, []}
+use mathlib.Core.Logic.{_↔_}
+use mathlib.Core.Option.{none, some}
+use Prim.Native.Nat.{ℕ, _≤_, _<_}
+use lib.ListN.{length}
+use Rattle.theory.specs.Answer.{answered}
+use Rattle.theory.specs.Monitor.{Monitor, reading}
+use Rattle.theory.specs.Series.{Series, sentTrace}
+use Rattle.theory.specs.Trust.{Trusted, TrustedUnderAny, FirstMisreading}
+use Rattle.monitor.specs.Format.{monitorOf}
+use Rattle.witness.specs.Figures.{FaultFigures, seriesFigures}
+use Rattle.immunity.specs.Findings.{faultAnswer}
+use Rattle.trust.specs.Trust.{trustAnswer, trustTrace}
+use Rattle.demands.specs.DemandTwo.{Askable}
+
+-- what the values of an answer and the bytes written with it say: yes, and the verdict is trusted; or the figures and the
+-- sent trace of the first witness against it
+pub data Believed (m : Monitor) (d set v : ℕ) : FaultFigures → List ℕ → Type 0 where
+  yes : Trusted m d set v → Believed m d set v none []
+  no : (s : Series) → FirstMisreading m d set v s
+      → Believed m d set v (some (seriesFigures (reading m d) m s)) (sentTrace s)
+
+-- `limit` is the greatest number of states
+pub record Trust (limit : ℕ) (b : List ℕ) (set d v : ℕ) : Type 0 where
+  -- yes is said exactly if the verdict is trusted, whatever the area
+  pub yes-exactly : (room : ℕ) → Askable set d → v < d
+      → (trustAnswer limit b set d v room ≡ answered none) ↔ Trusted (monitorOf b) d set v
+  -- the question is answered where the area holds the witness
+  pub given : (room : ℕ) → Askable set d → v < d → length (trustTrace b set d v) ≤ room
+      → (values : FaultFigures) × (trustAnswer limit b set d v room ≡ answered values)
+  -- an answer, with an area of any length, is right: yes, or the first witness
+  pub answers : (room : ℕ) (values : FaultFigures) → trustAnswer limit b set d v room ≡ answered values
+      → Believed (monitorOf b) d set v values (trustTrace b set d v)
+  -- there is only one first witness
+  pub first : (s t : Series) → FirstMisreading (monitorOf b) d set v s → FirstMisreading (monitorOf b) d set v t → s ≡ t
+  -- "a table is immune exactly if every verdict of the chosen reading is trustworthy"
+  pub immune : (room : ℕ) → Askable set d
+      → (faultAnswer limit b set d room ≡ answered none) ↔ ((u : ℕ) → u < d → Trusted (monitorOf b) d set u)
+  -- "trust under one fault is trust under any number, each from sent to received"
+  pub any-number : Trusted (monitorOf b) d set v ↔ TrustedUnderAny (monitorOf b) d set v
