@@ -1,44 +1,21 @@
 #!/usr/bin/env python3
-"""Compares the fault question and the card, as the program `probe` answers them, with a search that tries every series of steps.
+"""Compares the fault question, the card and which verdicts can be trusted, as the program `probe` answers them, with a
+search that tries every series of steps.
 
-The search is written from the specification alone and knows neither distances of pairs nor reachable states. It goes up to sent length
-2 * n - 1; a witness longer than that would show as a difference, since the program would not say immune.
+The search is written from the specification alone and knows neither distances of pairs nor reachable states. For a
+fault question it goes up to sent length 2 * n - 1; a witness longer than that would show as a difference, since the
+program would not say immune. For a verdict n * n is enough: a shortest witness has at most n - 1 messages before the
+fault, two that the fault covers, and n * n - n - 1 behind it, since no pair of states comes twice there and none is a
+state beside itself. Where that would be too many series, the search ends earlier.
 """
-import collections
 import functools
 import itertools
 import random
 
-from model import SAMPLES, compare, count, judge, listed, monitorability, reading, refusal, small_tables
-
-LOSS, CORRUPTION, REPEAT, SWAP = KINDS = 1, 2, 4, 8
-READINGS = 3, 6
-
-Witness = collections.namedtuple("Witness", "distance steps sent_reading received_reading")
-
+from model import (FAULT, KINDS, READINGS, SAMPLES, TRUST, ask_trust, compare, differ, fault_steps, finding, first_of,
+                   judge, misread, monitorability, reading, received_by, sent_by, small_tables)
 
 # ---- series of steps
-# A plain step is (1, message), a fault step (0, kind, sent messages, replacement). Tuples compare as the
-# specification orders steps.
-
-
-def fault_steps(k):
-    ones, twos = list(itertools.product(range(k), repeat=1)), list(itertools.product(range(k), repeat=2))
-    yield from ((0, LOSS, sent, 0) for sent in ones)
-    yield from ((0, CORRUPTION, sent, replacement) for sent in ones for replacement in range(k))
-    yield from ((0, REPEAT, sent, 0) for sent in ones)
-    yield from ((0, SWAP, sent, 0) for sent in twos)
-
-
-def sent_by(step):
-    return step[2] if step[0] == 0 else step[1:]
-
-
-def received_by(step):
-    if step[0] == 1:
-        return step[1:]
-    _, kind, sent, replacement = step
-    return {LOSS: (), CORRUPTION: (replacement,), REPEAT: sent + sent, SWAP: sent[::-1]}[kind]
 
 
 def number(trace, k):
@@ -48,7 +25,8 @@ def number(trace, k):
 
 @functools.cache
 def series(k, length):
-    """Every series with one fault step and this sent length, in the written order: its steps, its kind, and its sent and received traces."""
+    """Every series with one fault step and this sent length, in the written order: its steps, its kind, and its sent
+    and its received trace."""
     every = []
     for fault in fault_steps(k):
         left = length - len(sent_by(fault))
@@ -62,66 +40,67 @@ def series(k, length):
 # ---- the search
 
 
-def states_after(b):
-    """The state that each trace of at most 2 * n messages leads to."""
+def states_after(b, longest):
+    """The state that each trace of at most this many messages leads to."""
     n, k, start = b[:3]
     after = [start]
-    for i in range(sum(k**j for j in range(1, 2 * n + 1))):
+    for i in range(sum(k**j for j in range(1, longest + 1))):
         after.append(b[3 + n + after[i // k] * k + i % k])
     return after
 
 
-def first_witness(k, longest, reads, faults):
-    """The first series of a set whose sent and received readings differ, or None."""
-    if not faults:
-        return None  # no fault step, so no series
+def first_series(b, d, longest, test):
+    """The first witness of each kind, a series whose sent and received readings pass the test, with its sent length."""
+    of_state, first = [reading(b, d, q) for q in range(b[0])], {}
+    reads = [of_state[q] for q in states_after(b, longest + 1)]
     for length in range(1, longest + 1):
-        for steps, kind, sent, received in series(k, length):
-            if kind & faults and reads[sent] != reads[received]:
-                return Witness(length, steps, reads[sent], reads[received])
-    return None
+        for steps, kind, sent, received in series(b[1], length):
+            if kind not in first and test(reads[sent], reads[received]):
+                first[kind] = length, steps
+                if len(first) == len(KINDS):
+                    return first
+    return first
 
 
-def witnesses(b):
-    """The first witness by each reading and set."""
+def horizon(b):
+    """The longest series tried for a verdict: of n * n messages, or of fewer where those would be too many."""
     n, k = b[:2]
-    after, found = states_after(b), {}
+    return max(length for length in range(1, n * n + 1) if k**length <= 512)
+
+
+# ---- the questions
+
+
+def card(b, first):
+    distances = [str(first[kind][0]) if kind in first else "-" for kind in KINDS]
+    return " ".join([str(b[0]), monitorability(b), *distances])
+
+
+def areas(w):
+    """Longer than the sent trace, as long, one byte shorter, and empty."""
+    room = w[0] if w else 1
+    return {room + 3, room, room - 1, 0}
+
+
+def fault_questions(b):
+    """Each reading and set, and the card."""
     for d in READINGS:
-        of_state = [reading(b, d, q) for q in range(n)]
-        reads = [of_state[q] for q in after]
+        first = first_series(b, d, 2 * b[0] - 1, differ)
         for faults in range(16):
-            found[d, faults] = first_witness(k, 2 * n - 1, reads, faults)
-    return found
+            w = first_of(first, faults)
+            yield from (([4, faults, d, room] + b, finding(b, d, w, room, FAULT)) for room in areas(w))
+        if d == 3:
+            yield [5, 0, 0, 0] + b, card(b, first)
 
 
-# ---- the answers
-
-
-def finding(b, w, room):
-    area = [255] * room
-    if w is None:
-        return "immune" + listed(area)
-    if room < w.distance:
-        return refusal((13, 0)) + listed(area)
-    sent, received = ([a for step in w.steps for a in side(step)] for side in (sent_by, received_by))
-    area[: w.distance] = sent
-    before = next(i for i, step in enumerate(w.steps) if step[0] == 0)
-    _, kind, _, replacement = w.steps[before]
-    figures = f"distance {w.distance} before {before} kind {kind} replacement {replacement} readings {w.sent_reading} {w.received_reading}"
-    return f"vulnerable {figures} counts {count(b, sent)} {count(b, received)}" + listed(area)
-
-
-def card(b, singles):
-    return f"{b[0]} {monitorability(b)}" + "".join(f" {w.distance if w else '-'}" for w in singles)
-
-
-def questions(b, found):
-    """Each reading and set, with areas longer than the sent trace, as long, one byte shorter, and empty; and the card."""
-    for (d, faults), w in found.items():
-        room = w.distance if w else 1
-        for length in {room + 3, room, room - 1, 0}:
-            yield [4, faults, d, length] + b, finding(b, w, length)
-    yield [5, 0, 0, 0] + b, card(b, [found[3, kind] for kind in KINDS])
+def trust_questions(b):
+    """Each reading, verdict and set, but for those of which a witness could only be beyond the horizon."""
+    for d, verdict in ((d, verdict) for d in READINGS for verdict in range(d)):
+        first = first_series(b, d, horizon(b), misread(verdict))
+        for faults in range(16):
+            w = first_of(first, faults)
+            if w or horizon(b) == b[0] ** 2:
+                yield from (ask_trust(b, faults, d, verdict, room, w) for room in areas(w))
 
 
 # ---- the tables
@@ -172,12 +151,16 @@ def chain_table(r):
 
 def main():
     r = random.Random(4)
-    tables = small_tables() + SAMPLES + [list(bytes.fromhex(line)) for line in FAR.split()] + [chain_table(r) for _ in range(100)]
+    far = [list(bytes.fromhex(line)) for line in FAR.split()]
+    tables = small_tables() + SAMPLES + far + [chain_table(r) for _ in range(100)]
     assert all(judge(b) is None for b in tables)
-    found = [witnesses(b) for b in tables]
-    total = compare(itertools.chain(*map(questions, tables, found)))
-    longest = max(w.distance for each in found for w in each.values() if w)
-    print(f"brute.py: {total} answers for {len(tables)} tables, distances up to {longest}, all equal")
+    asked = [question for b in tables for question in (*fault_questions(b), *trust_questions(b))]
+    total = compare(asked)
+    distance, farther = (max(int(answer.split()[2]) for _, answer in asked if answer.startswith(found + " "))
+                         for _, found in (FAULT, TRUST))
+    print(f"brute.py: {total} answers for {len(tables)} tables, distances up to {distance}, "
+          f"of verdicts up to {farther}, all equal")
 
 
-main()
+if __name__ == "__main__":
+    main()

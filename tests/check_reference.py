@@ -1,12 +1,16 @@
-"""Checks reference.py against the specification's own facts and against a plain enumeration of traces."""
+"""Checks reference.py against the specification's own facts, a plain enumeration of traces, and the other searches."""
 
 import itertools
 import random
 
+import brute
+import model
 import reference
-from reference import CORRUPTION, LOSS, REPEAT, SWAP, Refused, classes, fault, judge, listing, step, trace, write_collection
+from reference import (CORRUPTION, LOSS, REPEAT, SWAP, Refused, classes, fault, judge, listing, step, trace, trust,
+                       write_collection)
+from rings import rings
 from tables import (A, B, C, D, E, G, H, LOWER_TRACE_HARMED, LOWER_TRACE_SWAPPED, THREE_IN_A_ROW, UGLY_FURTHER_ON,
-                    UGLY_UNREACHABLE, UNREACHABLE_HARM, collection, random_table)
+                    UGLY_UNREACHABLE, UNREACHABLE_HARM, collection, random_table, table)
 
 
 def answer(call, *arguments):
@@ -27,10 +31,17 @@ def check(got, wanted, about):
         raise SystemExit(f"check_reference: {about}: wanted {wanted}, got {got}")
 
 
-def short(body, faults, reading=3):
-    """Distance, sent trace, messages before the fault, kind and replacement; None for immune."""
-    w = fault(body, faults, reading, 1000)
+def figures(w):
+    """Distance, sent trace, messages before the fault, kind and replacement of a witness; None if there is none."""
     return w and (w.distance, w.sent, w.before, w.kind, w.replacement)
+
+
+def short(body, faults, reading=3):
+    return figures(fault(body, faults, reading, 1000))
+
+
+def misread(body, faults, reading, verdict):
+    return figures(trust(body, faults, reading, verdict, 1000))
 
 
 def starred_facts():
@@ -124,6 +135,35 @@ def counts():
         check((w.sent_count, w.received_count), wanted, (body.hex(), faults, reading))
 
 
+def trusted():
+    """Which verdicts of A and E can be trusted; one that is never received; which way round the readings are."""
+    for verdict, wanted in enumerate(((1, [1], 0, LOSS, 0), None, None)):
+        check(misread(A, LOSS, 3, verdict), wanted, f"A, loss, verdict {verdict}")
+    for verdict, wanted in enumerate(((1, [1], 0, CORRUPTION, 0), (1, [0], 0, CORRUPTION, 1), None)):
+        check(misread(A, CORRUPTION, 3, verdict), wanted, f"A, corruption, verdict {verdict}")
+    check(trust(E, LOSS, 3, 1, 3), (3, 1, LOSS, 0, 0, 1, [1, 0, 1], None, 2), "E, loss, verdict 1")
+    check(short(E, LOSS)[0], 2, "E, loss")
+    for reading, verdict in ((3, 0), (3, 1), (3, 2), (6, 5)):
+        check(trust(D, 15, reading, verdict, 0), None, "D, all faults: yes needs no room")
+    check(trust(A, LOSS, 3, 1, 0), None, "A, loss, verdict 1: yes needs no room")
+    check(answer(trust, E, LOSS, 3, 1, 2), (13, 0), "E, loss, verdict 1, area 2")
+    for p, q, states, distance in ((10, 12, 25, 61), (28, 30, 61, 421)):
+        body = table(*rings(p, q))
+        check((body[0], misread(body, REPEAT, 3, 1)[0]), (states, distance), f"rings of {p} and {q}")
+        check(answer(trust, body, REPEAT, 3, 1, distance - 1), (13, 0), f"rings of {p} and {q}, one byte short")
+
+
+def trust_refusals():
+    """19 behind all others but 13, and of the whole number."""
+    for verdict in (3, 4, 5, 6, 255, 256, 257, 2**32 + 1, 2**64 - 1, 10**40):
+        check(answer(trust, A, LOSS, 3, verdict, 0), (19, 0), f"reading 3, verdict {verdict}")
+        check(answer(trust, A, LOSS, 6, verdict, 0), None if verdict < 6 else (19, 0), f"reading 6, verdict {verdict}")
+    orders = ((9, 16, 5, 9), (10, 15, 5, 9), (19, 15, 3, 3), (19, 15, 6, 6), (13, 15, 3, 0))
+    for number, faults, reading, verdict in orders:
+        check(answer(trust, A, faults, reading, verdict, 0), (number, 0), f"the order: {number}")
+        check(answer(trust, A[:-1], faults, reading, verdict, 0), (4, 8), f"4 before {number}")
+
+
 def collections():
     first = bytes.fromhex("0300 1A00000009000100 230000000C000200 2F00000009000300")
     text = reference.HEADER + "1 2 pos 1 1 - -\n2 3 pos 2 2 1 3\n3 refused 6 4\n"
@@ -149,7 +189,7 @@ def collections():
 
 
 def enumerated(table, faults, values):
-    """The first witness among all sent traces of up to 2 n messages and all faults in them, from the definitions."""
+    """The first witness of a fault question among all sent traces of up to 2 n messages and all faults in them."""
     def end(messages):
         state = table.start
         for m in messages:
@@ -207,12 +247,43 @@ def enumeration():
                 check(fault(body, faults, reading, 99), wanted, (body.hex(), faults, reading))
 
 
+def series_of(w):
+    """A witness as the model has it: its sent length and its steps."""
+    if w is None:
+        return None
+    behind = w.before + (2 if w.kind == SWAP else 1)
+    strike = (0, w.kind, tuple(w.sent[w.before:behind]), w.replacement)
+    return w.distance, model.plain_steps(w.sent[:w.before]) + (strike,) + model.plain_steps(w.sent[behind:])
+
+
+def every_series(b, reading, test):
+    return brute.first_series(b, reading, b[0] ** 2, test)
+
+
+def searches():
+    """Every verdict, by the searches of brute.py, for small tables, and of model.py; all sets, both readings."""
+    rng = random.Random("searches")
+    small = model.small_tables() + [list(random_table(rng, 3, 2)) for _ in range(20)]
+    sizes = [(rng.randint(3, 9), rng.randint(1, 4)) for _ in range(40)]
+    larger = [list(random_table(rng, n, k)) for n, k in sizes] + [list(table(*rings(4, 6)))]
+    asked = [(b, every_series) for b in small] + [(b, model.first_witnesses) for b in small[182:] + larger]
+    for (b, search), reading in itertools.product(asked, (3, 6)):
+        for verdict in range(reading):
+            first = search(b, reading, model.misread(verdict))
+            for faults in range(16):
+                came = series_of(trust(bytes(b), faults, reading, verdict, 1000))
+                check(came, model.first_of(first, faults), (bytes(b).hex(), faults, reading, verdict))
+
+
 if __name__ == "__main__":
     starred_facts()
     edges()
     examples()
     writer()
     counts()
+    trusted()
+    trust_refusals()
     collections()
     enumeration()
+    searches()
     print(f"check_reference: {checks:,} checks, no difference")

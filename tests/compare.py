@@ -1,10 +1,15 @@
 #!/usr/bin/env python3
-"""Compares the answers of the program `probe` with a model: judging, classes, steps, traces, what the fault question refuses, and the writer."""
+"""Compares the answers of the program `probe` with a model: judging, classes, steps, traces, what the fault question
+refuses, the writer, and which verdicts can be trusted."""
 import itertools
 import random
 import struct
 
-from model import SAMPLES, compare, count, judge, listed, monitorability, reach, reading, refusal, small_tables, state_class, successors
+from model import (READINGS, REPEAT, SAMPLES, ask_trust, compare, count, fault_refusal, first_of, first_witnesses,
+                   judge, listed, misread, monitorability, reach, reading, refusal, run, small_tables, state_class,
+                   successors)
+from rings import rings
+from tables import table
 
 # ---- the model's answers
 
@@ -37,18 +42,7 @@ def trace(b, d, w):
     no = no or next(((12, i) for i, a in enumerate(w) if a >= b[1]), None)
     if no:
         return refusal(no)
-    q = b[2]
-    for a in w:
-        q = successors(b, q)[a]
-    return f"reading {reading(b, d, q)} count {count(b, w)}"
-
-
-def fault_refusal(b, faults, d):
-    """The refusal of a fault question whose witness does not fit, by the first no."""
-    no = judge(b)
-    no = no or (None if faults <= 15 else (9, 0))
-    no = no or (None if d in (3, 6) else (10, 0))
-    return refusal(no or (13, 0))
+    return f"reading {reading(b, d, run(b, b[2], w))} count {count(b, w)}"
 
 
 def write_refusal(rules, lengths, bodies, room):
@@ -102,7 +96,8 @@ def ask_trace(b, d, w):
 
 
 def ask_refused(b, faults, d, room):
-    return [4, faults, d, room] + b, fault_refusal(b, faults, d) + listed([255] * room)
+    """A fault question whose witness, if it has one, does not fit."""
+    return [4, faults, d, room] + b, refusal(fault_refusal(b, faults, d) or (13, 0)) + listed([255] * room)
 
 
 def ask_card_refused(b):
@@ -114,8 +109,8 @@ def ask_write(rules, lengths, bodies, room):
     return [6, len(rules), len(lengths), room, *numbers, *bodies], write(rules, lengths, bodies, room)
 
 
-def random_table(r):
-    n, k = r.randint(1, 64), r.randint(1, 16)
+def random_table(r, states=64, messages=16):
+    n, k = r.randint(1, states), r.randint(1, messages)
     chance = r.choice((0.05, 0.3))
     marks = [r.choice((1, 2)) if r.random() < chance else 0 for _ in range(n)]
     alike = [[q for q in range(n) if marks[q] == marks[p]] if marks[p] else range(n) for p in range(n)]
@@ -148,12 +143,15 @@ def damaged_questions():
             if judge(damaged):
                 yield ask_refused(damaged, 15, 6, 8)
                 yield ask_refused(damaged, 16, 5, 0)
+                yield ask_trust(damaged, 15, 6, 5, 8)
+                yield ask_trust(damaged, 16, 5, 255, 0)
                 yield ask_card_refused(damaged)
         for length in range(len(b) + 2):
             cut = (b + [0, 0])[:length]
             yield ask_judge(cut)
             if judge(cut):
                 yield ask_refused(cut, 99, 5, 3)
+                yield ask_trust(cut, 99, 5, 255, 3)
                 yield ask_card_refused(cut)
 
 
@@ -161,8 +159,12 @@ def refused_questions():
     for b in SAMPLES:
         for faults, d, room in itertools.product((16, 17, 99, 128, 255), (3, 5, 6), (0, 3)):
             yield ask_refused(b, faults, d, room)
+            yield ask_trust(b, faults, d, d, room)
         for faults, d, room in itertools.product(range(16), (0, 1, 2, 4, 5, 7, 255), (0, 3)):
             yield ask_refused(b, faults, d, room)
+            yield ask_trust(b, faults, d, d, room)
+        for faults, d, room in itertools.product(range(16), READINGS, (0, 3)):
+            yield from (ask_trust(b, faults, d, verdict, room) for verdict in (d, 255))
     e = SAMPLES[4]
     for d, room in itertools.product((3, 6), (0, 1, 2)):
         yield ask_refused(e, 8, d, room)
@@ -228,6 +230,32 @@ def written_questions():
     assert answers >= {"written", "27", "23", "28", "13", *"12345678"}, answers
 
 
-total = compare(itertools.chain(small_questions(), damaged_questions(), refused_questions(), random_questions(), fallen_questions(),
-                                written_questions()))
+def undecided_table(r, states, messages):
+    """A random table that has no verdict at its start and can come to one."""
+    tables = (random_table(r, states, messages) for _ in itertools.count())
+    return next(b for b in tables if not b[3 + b[2]] and any(b[3 + q] for q in reach(b, b[2])))
+
+
+def ask_trusted(b, faults, d, verdict, first):
+    """A verdict, by the first witness of each kind; areas that just hold that of the set, just do not, and none."""
+    w = first_of(first, faults)
+    yield from (ask_trust(b, faults, d, verdict, room, w) for room in ({w[0], w[0] - 1, 0} if w else (0, 3)))
+
+
+def trust_questions():
+    """Every set, reading and verdict of small tables, one set for each verdict of larger ones, and rings."""
+    r = random.Random(23)
+    small, larger = [undecided_table(r, 9, 4) for _ in range(16)], [undecided_table(r, 40, 8) for _ in range(6)]
+    for b in SAMPLES + small + larger:
+        for d, verdict in ((d, verdict) for d in READINGS for verdict in range(d)):
+            first = first_witnesses(b, d, misread(verdict))
+            for faults in range(16) if b[0] < 10 else [r.randrange(16)]:
+                yield from ask_trusted(b, faults, d, verdict, first)
+    for one, two in ((10, 12), (28, 30)):
+        b = list(table(*rings(one, two)))
+        yield from ask_trusted(b, REPEAT, 3, 1, first_witnesses(b, 3, misread(1)))
+
+
+total = compare(itertools.chain(small_questions(), damaged_questions(), refused_questions(), random_questions(),
+                                fallen_questions(), written_questions(), trust_questions()))
 print(f"compare.py: {total} answers compared with the model, all equal")

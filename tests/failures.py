@@ -14,7 +14,7 @@ import tempfile
 import termios
 import tty
 
-from inputs import ROOM, kept, stored
+from inputs import RINGS, ROOM, kept, stored
 from tables import E, collection, in_a_row, late_repeat, table
 
 PROGRAMS = sys.argv[1] if len(sys.argv) > 1 else os.path.join("target", "bin")
@@ -28,7 +28,8 @@ PACK = ["pack", "1", kept("first", E), "2", kept("second", E)]
 
 # A call of each program, and of `ask` one that reads no input, one that reads a trace and one that writes.
 CALLS = [(["listing"], SAMPLE), (["card"], SAMPLE), (["card", "20", "21"], SAMPLE), (["ask", "judge"], E),
-         (["ask", "rule", "20", "fault", "8", "3", "3"], SAMPLE), (["ask", "trace", "3", "1", "1"], E),
+         (["ask", "rule", "20", "fault", "8", "3", "3"], SAMPLE), (["ask", "trust", "4", "3", "1", "61"], RINGS[0]),
+         (["ask", "trace", "3", "1", "1"], E),
          (["ask", "trace", "3", stored("hour", [0] * 262142 + [1, 1])], E),
          (["ask", "why", "8"], b""), (["listing", "--help"], b""), (["card", "--help"], b""), (["ask", "--help"], b""),
          (WRITE, E + E), (PACK, b""), (["pack", "--help"], b"")]
@@ -147,6 +148,8 @@ def small_stack():
     """The same answers with a small stack as with any. The environment, which it holds too, is empty."""
     calls = CALLS + [(["listing"], LARGE), (["card"], LARGE), (["card", "x"], SAMPLE), (["ask"], E),
                      (["ask", "rule", "1", "fault", "4", "6", str(ROOM)], LARGE), (["ask", "collection"], LARGE),
+                     (["ask", "trust", "4", "3", "1", "9" * 99], RINGS[-1]),
+                     (["ask", "rule", "1", "trust", "15", "6", "5", str(ROOM)], LARGE),
                      (["ask", "rule", "512", "trace", "6", stored("longest", [0] * 262144)], LARGE),
                      (["ask", "body", "1"], LARGE), (["ask", "write", "9" * 99, *["1"] * 513, "/", *["0"] * 512], LARGE),
                      (["ask", "write", "100000", *map(str, range(512)), "/", *["12"] * 512], E * 512),

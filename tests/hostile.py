@@ -33,7 +33,7 @@ LIST_LIMIT = 1024
 BODIES_LIMIT = 65535
 
 # How many numbers follow the word of a form. A trace has one at least.
-COUNTS = {"judge": 0, "classes": 1, "step": 3, "fault": 3}
+COUNTS = {"judge": 0, "classes": 1, "step": 3, "fault": 3, "trust": 4}
 
 # The words of each refusal, which tests/readme.py compares with those of `ask why`.
 with open("docs/FORMAT.md", encoding="utf-8") as format_text:
@@ -81,6 +81,15 @@ def counted(count):
     return "never" if count is None else str(count)
 
 
+def witness_answer(w, without, found):
+    """A witness, or none, behind the word for it."""
+    if w is None:
+        return without
+    return (f"{found} distance {w.distance} before {w.before} kind {w.kind} replacement {w.replacement} "
+            f"readings {w.sent_reading} {w.received_reading} sent {' '.join(map(str, w.sent))} "
+            f"counts {counted(w.sent_count)} {counted(w.received_count)}")
+
+
 def form_answer(words, body):
     """The answer to a question of a body, without the line's end."""
     command = words[0]
@@ -97,12 +106,9 @@ def form_answer(words, body):
         return f"monitorability {MONITORABILITY[answer.monitorability]} reached {answer.reached} classes {listed}"
     if command == "step":
         return "state {} reading {}".format(*reference.step(body, *numbers))
-    w = reference.fault(body, *numbers)
-    if w is None:
-        return "immune"
-    return (f"vulnerable distance {w.distance} before {w.before} kind {w.kind} replacement {w.replacement} "
-            f"readings {w.sent_reading} {w.received_reading} sent {' '.join(map(str, w.sent))} "
-            f"counts {counted(w.sent_count)} {counted(w.received_count)}")
+    if command == "trust":
+        return witness_answer(reference.trust(body, *numbers), "yes", "no")
+    return witness_answer(reference.fault(body, *numbers), "immune", "vulnerable")
 
 
 def two_bytes(words):

@@ -5,10 +5,14 @@ import tempfile
 
 import reference
 from reference import INPUT_LIMIT
-from tables import A, B, C, D, E, NAMED, collection, damaged, far_table, in_a_row, late_repeat, packed, random_table, table
+from rings import rings
+from tables import (A, B, C, D, E, NAMED, collection, damaged, far_table, in_a_row, late_repeat, packed, random_table,
+                    table)
 
-ROOM = 1000         # an area that holds every answer
-WIDE = [2**8, 2**8 + 1, 2**16, 2**32, 2**32 + 3, 2**63, 2**64 - 1, 2**64, 2**64 + 1, 2**64 + 3, 2**64 + 6, 10**40]
+ROOM = 1000         # an area that holds every answer here
+WIDE = [2**8, 2**8 + 1, 2**16, 2**32, 2**32 + 1, 2**32 + 3, 2**63, 2**64 - 1, 2**64, 2**64 + 1, 2**64 + 3, 2**64 + 6,
+        10**40]
+RINGS = [table(*rings(one, two)) for one, two in ((10, 12), (28, 30), (26, 34))]
 
 
 def ask(data, *words):
@@ -100,6 +104,48 @@ def areas_for_witnesses(rng):
             distance = witness.distance if witness else 0
             for area in {0, distance - 1, distance, distance + 1, body[0] - 1, body[0], rng.choice(WIDE)} - {-1}:
                 yield ask(body, "fault", faults, reading, area)
+
+
+def trust_areas(body, faults, reading, verdict):
+    """An area that just does not hold the witness, and one that does; none where there is no witness."""
+    witness = reference.trust(body, faults, reading, verdict, ROOM)
+    return [0] if witness is None else [witness.distance - 1, witness.distance]
+
+
+def trusted_verdicts(rng):
+    """Every verdict of the specification's tables and of random small ones, under every set and both readings."""
+    for body in NAMED + [vulnerable_table(rng, rng.randint(2, 7), rng.randint(1, 4)) for _ in range(12)]:
+        for faults in range(16):
+            for reading, verdict in ((reading, verdict) for reading in (3, 6) for verdict in range(reading)):
+                for area in trust_areas(body, faults, reading, verdict):
+                    yield ask(body, "trust", faults, reading, verdict, area)
+
+
+def trust_questions(rng):
+    """The order of 9, 10, 19 and 13, and verdicts that are one of the reading's only if they are cut, of A and E."""
+    for body in (A, E, A[:-1]):
+        for faults in (1, 2, 15, 16):
+            for reading in (3, 5, 6):
+                for verdict in (0, 1, 2, 3, 5, 6, *WIDE):
+                    yield from (ask(body, "trust", faults, reading, verdict, area) for area in (0, 9))
+
+
+def trust_of_all_sizes(rng):
+    """Some sets and verdicts, at a quarter of all sizes."""
+    for body in all_sizes(rng):
+        if rng.random() < 0.25:
+            for faults, reading in ((rng.randint(1, 15), 3), (rng.choice([1, 2, 4, 8]), 3), (rng.randint(1, 15), 6)):
+                yield ask(body, "trust", faults, reading, rng.randrange(reading), ROOM)
+
+
+def far_misreadings(rng):
+    """Witnesses of up to 443 messages: areas around their length and around the longest that is lent, and wide ones."""
+    for body in RINGS + [table(*rings(one, two)) for one in (2, 4, 6) for two in (2, 4, 10, 16)]:
+        others = rng.randint(0, 15), 6, rng.randrange(6)
+        for faults, reading, verdict in ((4, 3, 1), (4, 6, 0), (4, 3, 2), (4, 3, 0), (15, 3, 1), others):
+            for near in trust_areas(body, faults, reading, verdict):
+                for area in {0, near, near + 1, rng.choice([255, 256, 4161, 4162, 4163, 5000, *WIDE])}:
+                    yield ask(body, "trust", faults, reading, verdict, area)
 
 
 def classes_of_tables(rng):
@@ -215,7 +261,8 @@ def damaged_in_listings(rng):
 def damaged_in_calls(rng):
     """A damaged table is refused first, whatever the numbers of the call are."""
     calls = [["judge"], ["classes", 0], ["classes", 64], ["step", 5, 99, 99], ["step", 3, 0, 0], ["trace", 5, 99],
-             ["trace", 3], ["fault", 16, 5, 0], ["fault", 15, 3, 0], ["fault", 15, 6, ROOM]]
+             ["trace", 3], ["fault", 16, 5, 0], ["fault", 15, 3, 0], ["fault", 15, 6, ROOM], ["trust", 16, 5, 99, 0],
+             ["trust", 15, 3, 0, 0], ["trust", 15, 6, 6, ROOM]]
     for body in damaged_bodies(rng, 10):
         yield ask(body, "judge")
         yield ask(body, *rng.choice(calls))
@@ -232,6 +279,7 @@ def lengths_and_counts(rng):
     for length in (1090, 1091, 1092, 4096, 65535, 65536, 65537, 70000, 200000):
         yield ask(full[:length] + bytes(max(0, length - 1091)), "judge")
         yield ask(full[:length] + bytes(max(0, length - 1091)), "fault", 16, 5, 0)
+        yield ask(full[:length] + bytes(max(0, length - 1091)), "trust", 15, 3, 3, 0)
 
 
 def random_bytes(rng):
@@ -244,12 +292,13 @@ def random_bytes(rng):
     for _ in range(400):
         yield ask(body(), "judge")
         yield ask(body(), "fault", rng.randint(0, 20), rng.randint(2, 7), rng.randint(0, 5))
+        yield ask(body(), "trust", rng.randint(0, 20), rng.randint(2, 7), rng.randint(0, 7), rng.randint(0, 5))
         yield ask(body(), "collection")
         yield listing(body())
 
 
 def numbers_around_limits(rng):
-    """Sets, readings, states, messages and areas around their limits, in bytes, in 64 bits and far beyond."""
+    """Sets, readings, verdicts, states, messages and areas around their limits, in bytes, in 64 bits and far beyond."""
     for n, k in ((1, 1), (2, 2), (5, 3), (64, 16), (13, 7)):
         body = vulnerable_table(rng, n, k)
         sets = list(range(18)) + [255] + WIDE
@@ -259,8 +308,13 @@ def numbers_around_limits(rng):
         for faults in sets:
             for reading in (3, 5, 6):
                 yield ask(body, "fault", faults, reading, rng.choice([0, ROOM]))
+                yield ask(body, "trust", faults, reading, rng.choice([0, 1, reading]), rng.choice([0, ROOM]))
         for reading in readings:
             yield ask(body, "fault", rng.choice([15, 16]), reading, ROOM)
+            yield ask(body, "trust", rng.choice([15, 16]), reading, rng.choice([0, reading]), ROOM)
+        for verdict in list(range(9)) + [255] + WIDE:
+            yield from (ask(body, "trust", rng.choice([1, 15]), reading, verdict, 0) for reading in (3, 6))
+            yield ask(body, "trust", *rng.choice([(16, 3), (15, 5), (16, 6), (16, 5)]), verdict, 0)
             yield ask(body, "step", reading, rng.choice([0, n]), rng.choice([0, k]))
             yield ask(body, "trace", reading, *rng.choice([[], [0], [0, k]]))
         for state in states:
@@ -272,6 +326,7 @@ def numbers_around_limits(rng):
         for area in [0, 1, 2, n - 1, n, n + 1, 255, 256] + WIDE:
             yield ask(body, "classes", area)
             yield ask(body, "fault", 15, 3, area)
+            yield ask(body, "trust", 15, 3, 0, area)
 
 
 def leading_zeros(rng):
@@ -280,6 +335,7 @@ def leading_zeros(rng):
     for zeros in ("0", "000", "0" * 30, "0" * 300, "0" * 100000):
         for area in ("2", "3", "18446744073709551619"):
             yield ask(body, "fault", zeros + "8", zeros + "3", zeros + area)
+            yield ask(body, "trust", zeros + "1", zeros + "3", zeros + "1", zeros + area)
             yield ask(body, "classes", zeros + area)
         yield ask(body, "step", zeros + "6", zeros + "1", zeros + "1")
         yield ask(body, "trace", zeros + "3", zeros + "1", zeros + "1", zeros)
@@ -289,6 +345,9 @@ def leading_zeros(rng):
         yield ask(body, "fault", long, 5, 0)
         yield ask(body, "fault", 8, long, 0)
         yield ask(body, "fault", 8, 3, long)
+        yield ask(body, "trust", 1, long, long, 0)
+        yield ask(body, "trust", 1, 3, long, 0)
+        yield ask(body, "trust", 1, 3, 1, long)
         yield ask(body, "step", 3, long, 0)
         yield ask(body, "step", 3, 0, long)
         yield ask(body, "trace", 3, 0, long)
@@ -300,13 +359,17 @@ def wrong_arguments(rng):
              "step", "step 3", "step 3 0", "step 3 0 0 0", "trace", "fault", "fault 1", "fault 1 3", "fault 1 3 9 9",
              "collection 0", "rule", "rule 1", "rule judge", "rule 1 1", "rule x judge", "rule -1 judge", "rule 1 judge 0",
              "rule 1 collection", "rule 1 rule 1 judge", "rule 1 why 1", "rule 1 --help", "rule 1 classes", "rule 1 step 3 0",
-             "rule 1 trace", "rule 1 fault 1 3", "rule 1 trace 3 x", "why", "why x", "why 1 2"]
+             "rule 1 trace", "rule 1 fault 1 3", "rule 1 trace 3 x", "why", "why x", "why 1 2", "trust", "trust 1",
+             "trust 1 3", "trust 1 3 0", "trust 1 3 0 9 9", "trust fault 1 3 9", "TRUST 1 3 0 9", "rule 1 trust 1 3 0",
+             "rule 1 trust 1 3 0 9 9", "rule 1 trust 1 3 x 9", "rule trust 1 3 0 9"]
     calls = [line.split() for line in lines]
     # The last two: a digit of another script, and a byte that is no text.
     for bad in ("", " ", "-1", "+1", "1 ", " 1", "0x10", "1e3", "1.0", "1,000", "a", "3a", "9" * 30 + "x", "/", ":",
                 "\u0663", "\udcff"):
         calls += [[bad], ["classes", bad], ["step", bad, "0", "0"], ["step", "3", "0", bad], ["trace", bad],
-                  ["trace", "3", "0", bad], ["fault", bad, "3", "9"], ["fault", "1", "3", bad]]
+                  ["trace", "3", "0", bad], ["fault", bad, "3", "9"], ["fault", "1", "3", bad],
+                  ["trust", bad, "3", "0", "9"], ["trust", "1", bad, "0", "9"], ["trust", "1", "3", bad, "9"],
+                  ["trust", "1", "3", "0", bad]]
     for words in calls:
         for data in (A, b"", b"\0\0"):
             yield ask(data, *words)
@@ -411,6 +474,7 @@ def forms_for(rng, body):
     yield ["step", rng.choice([3, 6, 5]), state, message]
     yield ["trace", rng.choice([3, 6]), *[rng.randrange(max(1, k)) for _ in range(rng.randint(0, 9))], message]
     yield ["fault", rng.choice([1, 2, 4, 8, 15, 16]), rng.choice([3, 6]), rng.choice([0, 2, ROOM])]
+    yield ["trust", rng.choice([1, 2, 4, 8, 15, 16]), rng.choice([3, 6]), rng.randrange(4), rng.choice([0, 2, ROOM])]
 
 
 def rules_of_collections(rng):
@@ -428,7 +492,7 @@ def rules_of_collections(rng):
         for damaged_file in (data[:-1], data + b"\0", data[:rng.randrange(len(data))], bytes([1]) + data[1:]):
             rule = rng.choice(rules + [7])
             yield ask(damaged_file, "rule", rule, *rng.choice(list(forms_for(rng, A))))
-    for words in (["judge"], ["fault", 15, 3, ROOM]):
+    for words in (["judge"], ["fault", 15, 3, ROOM], ["trust", 15, 3, 0, ROOM]):
         most = collection([(2 * i, NAMED[i % len(NAMED)]) for i in range(512)])
         yield from (ask(most, "rule", rule, *words) for rule in (0, 1, 2, 510, 511, 1021, 1022, 1023, 65535))
         yield ask(bytes(65537), "rule", 0, *words)
@@ -611,12 +675,14 @@ def input_sizes(rng):
             yield from both(data)
             yield ask(data, "judge")
             yield ask(data, "trace", 3, 0)
-            yield ask(data, *rng.choice([["classes", 64], ["step", 3, 0, 0], ["fault", 16, 5, 0]]))
+            forms = ["classes", 64], ["step", 3, 0, 0], ["fault", 16, 5, 0], ["trust", 16, 5, 9, 0]
+            yield ask(data, *rng.choice(forms))
 
 
 GROUPS = [named_tables, small_listings, listings_of_all_sizes, far_listings, witnesses_of_small_tables,
-          witnesses_of_all_sizes, areas_for_witnesses, classes_of_tables, steps_and_traces, fallen_verdicts,
-          traces_in_files, damaged_in_listings, damaged_in_calls, lengths_and_counts, random_bytes,
-          numbers_around_limits, leading_zeros, wrong_arguments, cut_collections, altered_collections,
-          counts_and_numbers, gaps_and_overlaps, random_collections, rules_of_collections, bodies_of_rules,
-          written_lists, unequal_lists, wrong_bodies, many_rules, wrong_lists, packed_files, input_sizes]
+          witnesses_of_all_sizes, areas_for_witnesses, trusted_verdicts, trust_questions, trust_of_all_sizes,
+          far_misreadings, classes_of_tables, steps_and_traces, fallen_verdicts, traces_in_files, damaged_in_listings,
+          damaged_in_calls, lengths_and_counts, random_bytes, numbers_around_limits, leading_zeros, wrong_arguments,
+          cut_collections, altered_collections, counts_and_numbers, gaps_and_overlaps, random_collections,
+          rules_of_collections, bodies_of_rules, written_lists, unequal_lists, wrong_bodies, many_rules, wrong_lists,
+          packed_files, input_sizes]

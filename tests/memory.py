@@ -13,7 +13,7 @@ import subprocess
 import sys
 from concurrent.futures import ThreadPoolExecutor
 
-from inputs import FILES, ROOM, ask, kept, listing, longest_bodies, pack, stored, write
+from inputs import FILES, RINGS, ROOM, ask, kept, listing, longest_bodies, pack, stored, write
 from tables import A, D, collection, damaged, in_a_row, late_repeat, random_table, table
 
 PROGRAMS = sys.argv[1] if len(sys.argv) > 1 else os.path.join("target", "bin")
@@ -38,6 +38,12 @@ def large_tables():
     for area in (0, 2**64 - 1, 2**64 + 3):
         yield ask(A, "fault", 2, 3, area)
     yield ask(far, "fault", 15, 6, ROOM)
+    for body, distance in zip(RINGS, (61, 421, 443)):
+        for area in (distance - 1, distance, ROOM, 2**64 - 1):
+            yield ask(body, "trust", 4, 3, 1, area)
+    for area in (0, 4162, 4163):
+        yield ask(RINGS[-1], "trust", 15, 6, 5, area)
+        yield ask(far, "trust", 15, 6, 0, area)
     yield ask(far, "step", 6, 63, 15)
     yield ask(far, "trace", 6, *[rng.randrange(16) for _ in range(10000)])
     yield ask(far, "trace", 3, *[0] * 9999, 16)
@@ -60,7 +66,8 @@ def collections():
         yield ask(data, "collection")
         yield listing(data)
         yield card(data)
-    for words in (["judge"], ["classes", 64], ["step", 6, 0, 1], ["trace", 3, 0, 1], ["fault", 15, 6, ROOM]):
+    for words in (["judge"], ["classes", 64], ["step", 6, 0, 1], ["trace", 3, 0, 1], ["fault", 15, 6, ROOM],
+                  ["trust", 15, 6, 5, ROOM]):
         for rule in (0, 510, 511, 65535, 65536):
             yield ask(most, "rule", rule, *words)
     for data in (b"", b"\0\0", most + b"\0", most[:-1], most[:4000], single, b"\xff" * 65536):
@@ -78,7 +85,7 @@ def refusals():
     yield listing(collection(list(enumerate(broken))))
     yield card(collection(list(enumerate(broken))))
     for line in ("fault 16 3 9", "fault 1 4 9", "fault 3 3 0", "classes 5", "step 2 0 0", "step 3 6 0", "step 3 0 3",
-                 "trace 3 0 3", "trace 7"):
+                 "trace 3 0 3", "trace 7", "trust 16 3 0 9", "trust 1 4 0 9", "trust 1 3 3 9", "trust 15 3 0 0"):
         yield ask(body, *line.split())
     sound = collection([(1, A), (2, A)])
     for data in (b"\1\2", sound[:17], collection([(2, A), (2, A)]), sound[:10] + b"\xff" + sound[11:], sound[:-1]):
@@ -128,7 +135,9 @@ def arguments():
                   ["fault", LONG, LONG, LONG], ["fault", 8, 3, "0" * 100000], ["step", 3, LONG, LONG],
                   ["trace", 3, 0, LONG], ["--help"], ["why", 8], ["why", LONG], ["why"], ["rule"], ["rule", LONG],
                   ["rule", LONG, "judge"], ["rule", 1, LONG], ["rule", 1, "trace", 3, LONG], ["write"], ["write", 9],
-                  ["write", 9, LONG, "/"], ["write", LONG, "/"], ["write", 9, "/", LONG], ["write", 9, "x", "/"], ["body"]):
+                  ["write", 9, LONG, "/"], ["write", LONG, "/"], ["write", 9, "/", LONG], ["write", 9, "x", "/"],
+                  ["body"], ["trust"], ["trust", 1, 3, 0], ["trust", 1, 3, 0, 9, 9], ["trust", LONG, LONG, LONG, LONG],
+                  ["trust", 1, 3, LONG, 9], ["trust", 1, 3, 0, LONG], ["trust", 1, 3, "x", 9]):
         yield ask(A, *words)
     yield "listing", ["--help"], A
     yield "listing", [LONG], A

@@ -1,7 +1,9 @@
-"""A model of tables, written from the specification alone, and the way to ask the built program `probe`.
+"""A model of tables and witnesses, written from the specification alone, and the way to ask the built program `probe`.
 
-The model shares nothing with the library but the byte format. Run the tests that use it after `rt ci` or `rt check probe`, at the root.
+The model shares nothing with the library but the byte format. Run the tests that use it after `rt ci` or
+`rt check probe`, at the root.
 """
+import collections
 import itertools
 import subprocess
 import sys
@@ -9,6 +11,11 @@ import sys
 PROBE = "target/bin/probe"
 BATCH = 65536
 MONITORABILITY = ["pos", "neg", "both", "none"]
+LOSS, CORRUPTION, REPEAT, SWAP = KINDS = 1, 2, 4, 8
+READINGS = 3, 6
+
+# The first word of an answer without a witness and with one: to a fault question, and of a verdict asked about.
+FAULT, TRUST = ("immune", "vulnerable"), ("yes", "no")
 
 # The tables A, B, C, D, E, G and H.
 SAMPLES = [
@@ -85,6 +92,13 @@ def reading(b, d, q):
     return b[3 + q] if d == 3 else state_class(b, q)
 
 
+def run(b, q, w):
+    """The state that a trace leads to from q."""
+    for a in w:
+        q = successors(b, q)[a]
+    return q
+
+
 def count(b, w):
     """After how many messages of the trace the mark is first true or false: a number, or the word never."""
     q, read = b[2], 0
@@ -106,6 +120,104 @@ def small_tables():
     return small
 
 
+# ---- series of steps
+# A plain step is (1, message), a fault step (0, kind, sent messages, replacement). Tuples compare as the
+# specification orders steps, and so do witnesses, which are pairs of the sent length and the steps.
+
+
+def fault_steps(k):
+    ones, twos = list(itertools.product(range(k), repeat=1)), list(itertools.product(range(k), repeat=2))
+    yield from ((0, LOSS, sent, 0) for sent in ones)
+    yield from ((0, CORRUPTION, sent, replacement) for sent in ones for replacement in range(k))
+    yield from ((0, REPEAT, sent, 0) for sent in ones)
+    yield from ((0, SWAP, sent, 0) for sent in twos)
+
+
+def plain_steps(w):
+    return tuple((1, a) for a in w)
+
+
+def sent_by(step):
+    return step[2] if step[0] == 0 else step[1:]
+
+
+def received_by(step):
+    if step[0] == 1:
+        return step[1:]
+    _, kind, sent, replacement = step
+    return {LOSS: (), CORRUPTION: (replacement,), REPEAT: sent + sent, SWAP: sent[::-1]}[kind]
+
+
+# ---- the first witness
+# A test of the sent and the received reading says what a witness is.
+
+
+def differ(sent, received):
+    """The test of a fault question."""
+    return sent != received
+
+
+def misread(verdict):
+    """The test of the question whether a verdict can be trusted: it is received, and another was sent."""
+    return lambda sent, received: received == verdict != sent
+
+
+def first_traces(b):
+    """Each state reached, with the first of the shortest traces that lead to it."""
+    first, todo = {b[2]: ()}, [b[2]]
+    for q in todo:
+        for a, p in enumerate(successors(b, q)):
+            if p not in first:
+                first[p] = first[q] + (a,)
+                todo.append(p)
+    return first
+
+
+def nearest(b, told):
+    """Each pair of states that some messages lead to one of the pairs told, with the fewest that do."""
+    into = collections.defaultdict(list)
+    for pair in itertools.product(range(b[0]), repeat=2):
+        for after in zip(*(successors(b, q) for q in pair)):
+            into[after].append(pair)
+    far, todo = dict.fromkeys(told, 0), list(told)
+    for after in todo:
+        for pair in into[after]:
+            if pair not in far:
+                far[pair] = far[after] + 1
+                todo.append(pair)
+    return far
+
+
+def first_rest(b, far, pair):
+    """The first of the shortest traces that lead a pair to one of those told."""
+    rest = []
+    while far[pair]:
+        every = enumerate(zip(*(successors(b, q) for q in pair)))
+        a, pair = next((a, after) for a, after in every if far.get(after) == far[pair] - 1)
+        rest.append(a)
+    return rest
+
+
+def first_witnesses(b, d, test):
+    """The first witness of each kind that has any: the first of those by each fault step at each state reached."""
+    reads = [reading(b, d, q) for q in range(b[0])]
+    far = nearest(b, [pair for pair in itertools.product(range(b[0]), repeat=2) if test(*(reads[q] for q in pair))])
+    first = {}
+    for (q, before), fault in itertools.product(first_traces(b).items(), fault_steps(b[1])):
+        pair = run(b, q, sent_by(fault)), run(b, q, received_by(fault))
+        if pair in far:
+            kind, length = fault[1], len(before) + len(sent_by(fault)) + far[pair]
+            if kind not in first or length <= first[kind][0]:
+                witness = length, plain_steps(before) + (fault,) + plain_steps(first_rest(b, far, pair))
+                first[kind] = min(first.get(kind, witness), witness)
+    return first
+
+
+def first_of(first, faults):
+    """The first witness of a set, from those of the kinds; None if there is none."""
+    return min((witness for kind, witness in first.items() if kind & faults), default=None)
+
+
 # ---- printed answers
 
 
@@ -115,6 +227,38 @@ def refusal(no):
 
 def listed(area):
     return "".join(f" {x}" for x in area)
+
+
+def fault_refusal(b, faults, d, verdict=0):
+    """The refusal (number, place) of a fault question, or of a verdict asked about, but for its room; or None."""
+    no = judge(b)
+    no = no or (None if faults <= 15 else (9, 0))
+    no = no or (None if d in READINGS else (10, 0))
+    return no or (None if verdict < d else (19, 0))
+
+
+def finding(b, d, w, room, words):
+    """A witness or none, and then the whole area, in which every byte is 255 before."""
+    area = [255] * room
+    if w is None:
+        return words[0] + listed(area)
+    distance, steps = w
+    if room < distance:
+        return refusal((13, 0)) + listed(area)
+    sent, received = ([a for step in steps for a in side(step)] for side in (sent_by, received_by))
+    area[:distance] = sent
+    before = next(i for i, step in enumerate(steps) if step[0] == 0)
+    _, kind, _, replacement = steps[before]
+    readings = " ".join(str(reading(b, d, run(b, b[2], trace))) for trace in (sent, received))
+    figures = f"distance {distance} before {before} kind {kind} replacement {replacement} readings {readings}"
+    return f"{words[1]} {figures} counts {count(b, sent)} {count(b, received)}" + listed(area)
+
+
+def ask_trust(b, faults, d, verdict, room, w=None):
+    """The question whether a verdict can be trusted, with its answer: that of the witness, if it is not refused."""
+    no = fault_refusal(b, faults, d, verdict)
+    answer = refusal(no) + listed([255] * room) if no else finding(b, d, w, room, TRUST)
+    return [7, faults, d, verdict, *divmod(room, 256)[::-1], *b], answer
 
 
 # ---- the comparison

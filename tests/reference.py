@@ -16,7 +16,8 @@ HEADER = "rule states class loss corruption repeat swap\n"
 Table = namedtuple("Table", "n k start marks rows")
 Classes = namedtuple("Classes", "monitorability reached classes")
 Traced = namedtuple("Traced", "reading count")
-Witness = namedtuple("Witness", "distance before kind replacement sent_reading received_reading sent sent_count received_count")
+Witness = namedtuple("Witness", "distance before kind replacement sent_reading received_reading sent sent_count "
+                                "received_count")
 
 
 class Refused(Exception):
@@ -128,7 +129,7 @@ def trace(body, reading, messages):
     return Traced(read_state(table, reading, states_of(table, messages)[-1]), count_of(table, messages))
 
 
-# ---- the fault question ----------------------------------------------------------------------------------
+# ---- the fault question, and the trust in a verdict ------------------------------------------------------
 
 # A step's key: (0, kind, sent messages, replacement) for a fault step, (1, ..) for a plain one. Tuples compare as the
 # specification orders steps.
@@ -174,11 +175,11 @@ def followers(table, faults, sent, received):
         yield plain_step(m), (table.rows[sent][m], None if received is None else table.rows[received][m])
 
 
-def first_series(table, faults, values):
-    """The first series of steps after which the two states' values differ, with both states; or None.
+def first_series(table, faults, values, told):
+    """The first series of steps after which the two states' values are told apart, with both values; or None.
 
-    A node is a state before the fault (received None) or the sent and the received state after it. `first` holds
-    the first series known to each node, as (sent length, step keys)."""
+    `told` is a test of the sent and the received value. A node is a state before the fault (received None) or the sent
+    and the received state after it. `first` holds the first series known to each node, as (sent length, step keys)."""
     # Of two series of equal sent length none begins the other, so appending steps keeps their order, and every
     # step adds length: the first pop of a node has its first series, and nodes are popped in the order of these.
     start = (table.start, None)
@@ -189,8 +190,8 @@ def first_series(table, faults, values):
         if order is not first[node]:
             continue    # a better series came in after this one was noted
         (length, series), (sent, received) = order, node
-        if received is not None and values[sent] != values[received]:
-            return series, sent, received
+        if received is not None and told(values[sent], values[received]):
+            return series, values[sent], values[received]
         for key, after in followers(table, faults, sent, received):
             after_order = (length + len(key[2]), series + (key,))
             if after not in first or after_order < first[after]:
@@ -199,23 +200,40 @@ def first_series(table, faults, values):
     return None
 
 
-def fault(body, faults, reading, area_length):
-    """None for immune, or the first witness."""
-    table = read_table(body)
-    question(faults <= 15, 9, 0)
-    question(reading in (3, 6), 10, 0)
-    values = [read_state(table, reading, s) for s in range(table.n)]
-    found = first_series(table, faults, values)
+def examine(table, faults, values, told, area_length):
+    """None, or the first witness that the test tells."""
+    found = first_series(table, faults, values, told)
     if found is None:
         return None
-    series, sent_state, received_state = found
+    series, sent_reading, received_reading = found
     sent = [m for key in series for m in key[2]]
     question(len(sent) <= area_length, 13, 0)
     before = next(i for i, key in enumerate(series) if key[0] == 0)
     _, kind, _, replacement = series[before]
     received = [m for key in series for m in delivered(key)]
-    return Witness(len(sent), before, kind, replacement, values[sent_state], values[received_state], sent,
+    return Witness(len(sent), before, kind, replacement, sent_reading, received_reading, sent,
                    count_of(table, sent), count_of(table, received))
+
+
+def read_values(body, faults, reading):
+    """Questions 1 to 10; the table, and the reading of each state."""
+    table = read_table(body)
+    question(faults <= 15, 9, 0)
+    question(reading in (3, 6), 10, 0)
+    return table, [read_state(table, reading, s) for s in range(table.n)]
+
+
+def fault(body, faults, reading, area_length):
+    """None for immune, or the first witness."""
+    table, values = read_values(body, faults, reading)
+    return examine(table, faults, values, lambda sent, received: sent != received, area_length)
+
+
+def trust(body, faults, reading, verdict, area_length):
+    """None if the verdict, received, was sent; or the first witness that another was."""
+    table, values = read_values(body, faults, reading)
+    question(verdict < reading, 19, 0)
+    return examine(table, faults, values, lambda sent, received: received == verdict != sent, area_length)
 
 
 # ---- collections -----------------------------------------------------------------------------------------
