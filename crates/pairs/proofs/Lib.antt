@@ -1,4 +1,7 @@
-pub mod Entries
+pub mod Visit
+pub mod Gather
+pub mod Layers
 pub mod Rounds
+pub mod First
 pub mod Path
 pub mod Walk

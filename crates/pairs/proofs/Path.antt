@@ -18,9 +18,8 @@ use Rattle.theory.specs.Pairs.{Tells, PairDistance}
 use Rattle.theory.proofs.Below.{clash, not-clash, both-ways, lt-or-le, first-below, first-here}
 use Rattle.theory.proofs.Lists.{find-none, find-each, find-map, find-map-none}
 use Rattle.theory.proofs.Series.{words-in}
-use Rattle.theory.proofs.Pairs.{tells-step, tells-rest, tells-ends}
+use Rattle.theory.proofs.Pairs.{tells-step, tells-rest, tells-ends, tells-same}
 use Rattle.pairs.specs.Square.{never, entry, extent, Noted, Squared, apartAtOnce, nearer, Falling, path}
-use Rattle.pairs.proofs.Rounds.{squared-same}
 
 -- a list with the property is at least as long as noted
 pub noted-least : {P : List ℕ → Type 0} {e : ℕ} → Noted P e → (w : List ℕ) → P w → e ≤ length w
@@ -38,6 +37,23 @@ noted-extent {P} e s = go (eqb e never) refl
 pub square-exact : {g : Automaton} {ends : ℕ → ℕ → Bool} {square : List ℕ} → Squared g ends square → (p q : ℕ) → p < g .states → q < g .states
     → PairDistance g ends p q (extent (entry square p q))
 square-exact {square = square} s p q lp lq = noted-extent (entry square p q) (s .noted p q lp lq)
+
+-- only the test on states matters
+pub squared-same : {g : Automaton} {f h : ℕ → ℕ → Bool} {square : List ℕ} → Closed g → ((p q : ℕ) → p < g .states → q < g .states → f p q ≡ h p q)
+    → Squared g f square
+    → Squared g h square
+squared-same {g} {f} {h} {square} c e s = record { size = s .size; noted = λ p q lp lq. noted p q lp lq (s .noted p q lp lq) }
+  where
+    noted : (p q : ℕ) → p < g .states → q < g .states → Noted (Tells g f p q) (entry square p q) → Noted (Tells g h p q) (entry square p q)
+    noted p q lp lq x = record {
+      most = x .most;
+      found = λ l. (let y = x .found l in
+          record { word = y .word; has = tells-same g f h c e p q (y .word) lp lq (y .has); long = y .long; least = λ v t. y .least v (back v t) });
+      none = λ z v t. x .none z v (back v t);
+    }
+      where
+        back : (v : List ℕ) → Tells g h p q v → Tells g f p q v
+        back v t = tells-same g h f c (λ i j li lj. sym (e i j li lj)) p q v lp lq t
 
 -- what the square has at 0 are the pairs that pass the test
 pub at-once : {g : Automaton} {ends : ℕ → ℕ → Bool} {square : List ℕ} → Squared g ends square → (p q : ℕ) → p < g .states → q < g .states

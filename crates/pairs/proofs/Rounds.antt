@@ -1,285 +1,248 @@
--- One pair, one row and one round of the search, and what holds when a round adds nothing.
-use mathlib.Core.Path.{_≡_, refl, sym, _∙_, subst}
-use mathlib.Core.Bool.{Bool, true, false, cond, _&&_, _||_}
+-- One symbol, one state and one round of the search: which rows and symbols are done.
+use mathlib.Core.Path.{_≡_, refl, sym, ap, _∙_}
+use mathlib.Core.Bool.{Bool, true, false, not, _&&_, _||_}
 use mathlib.Core.List.{List}
 use mathlib.Core.Logic.{_⊎_, inl, inr, ⊎-elim}
-use Prim.Native.Nat.{ℕ, zero, suc, _+_, _*_, _≤_, _<_}
-use native.Mathlib.Nat.{le-refl, mul-le-mul}
-use native.Mathlib.Numerals.{add-one}
+use Prim.Native.Nat.{ℕ, suc, _+_, _*_, _≤_, _<_, zero-le}
 use native.Mathlib.Omega.{arith}
-use lib.Dec.{eqb, leb, eqb·suc-zero, leb·suc-zero}
+use lib.Dec.{eqb, ltb}
 use lib.ListN.{length}
-use borrow.Author.Tests.{eqb-true, eqb-false, le-leb, lt-leb, leb-true}
-use Rattle.theory.specs.Below.{any}
+use borrow.Author.Tests.{eq-eqb, eqb-true, eqb-false, lt-ltb, le-ltb, ltb-true, not-true}
+use Rattle.theory.specs.Below.{first}
 use Rattle.theory.specs.Automaton.{Automaton, Closed}
-use Rattle.theory.specs.Monitor.{stateLimit}
-use Rattle.theory.specs.Pairs.{Tells, told}
-use Rattle.theory.specs.Extent.{Shortest}
-use Rattle.theory.proofs.Below.{clash, lt-or-le, or-right, and-left, and-right, any-same}
-use Rattle.theory.proofs.Pairs.{onward, told-sound, told-complete, told-more, told-up, still-ever, told-settled, tells-same}
-use Rattle.pairs.specs.Square.{never, squareSize, place, entry, stored, Noted, Squared, New, Rounds, apartAtOnce, leadsWithin, adds, Fresh, Stage}
-use Rattle.pairs.specs.Square.{Midway}
-use Rattle.pairs.proofs.Entries.{stored-size, stored-here, stored-elsewhere, one-more, row-done}
+use Rattle.theory.specs.Monitor.{stateLimit, symbolLimit}
+use Rattle.theory.specs.Pairs.{told}
+use Rattle.theory.proofs.Below.{clash, not-clash, is-true, lt-or-le, or-cases, or-left, or-right, and-left, and-right, and-both}
+use Rattle.pairs.specs.Square.{never}
+use Rattle.pairs.specs.Layers.{setAt, Put, Empty, Preceding, Ground, Layer, Front, Midway, GoesAt, rowDone, symbolDone, stateDone}
+use Rattle.pairs.proofs.Visit.{lowest-in, lowest-none}
+use Rattle.pairs.proofs.Layers.{layer-begins, layer-front, layer-next}
 
--- ---- the symbols of one pair
+-- where less is done, what is done stays
+pub midway-less : {g : Automaton} {ends : ℕ → ℕ → Bool} {r : ℕ} {done less : ℕ → ℕ → Bool} {square alike next : List ℕ} {rows : ℕ → Bool}
+    → Midway g ends r done square alike next rows
+    → ((p a : ℕ) → p < g .states → a < g .symbols → less p a ≡ true → done p a ≡ true) → Midway g ends r less square alike next rows
+midway-less M l = record {
+  kept = M .kept;
+  old = M .old;
+  known = M .known;
+  new = M .new;
+  covered = λ p q a lp lq la d. M .covered p q a lp lq la (l p a lp la d);
+}
 
-module _ (g : Automaton) (square : List ℕ) (r p q : ℕ) where
-  -- symbol a leads to a pair told apart within r
-  abbrev pub within : ℕ → Bool
-  within a = leb (entry square (g .next p a) (g .next q a)) r
+-- the same states in front
+pub front-same : {g : Automaton} {ends : ℕ → ℕ → Bool} {r x : ℕ} {front other : ℕ → Bool} → Front g ends r x front → ((y : ℕ) → other y ≡ front y)
+    → Front g ends r x other
+front-same F e = record {
+  sound = λ y t. F .sound y (sym (e y) ∙ t);
+  all = λ y ly t. ⊎-elim (λ f. inl (e y ∙ f)) inr (F .all y ly t);
+}
 
-  pub within-as : {a x y : ℕ} {b : Bool} → x ≡ g .next p a → y ≡ g .next q a → leb (entry square x y) r ≡ b → within a ≡ b
-  within-as ex ey h = rw (← ex, ← ey) h
+-- what a set has lost
+lost : (f g : Bool) → (f && not g) ≡ true → (f ≡ true) × (g ≡ false)
+lost f g t = (and-left f (not g) t, not-true g (and-right f (not g) t))
 
--- ---- one pair
+keep : {f g : Bool} → f ≡ true → g ≡ false → (f && not g) ≡ true
+keep ef eg = rw (ef, eg)
 
--- b is a with the pair counted where it is new
-module _ (a : ℕ) {b : ℕ} where
-  pub counted-new : {u : Bool} → u ≡ true → b ≡ a + 1 → b ≡ a + cond u 1 0
-  counted-new h e = rw h e
+-- taken out of a set: it was not in it, or it is the one taken
+taken : (left left′ : ℕ → Bool) {y : ℕ} → ((q : ℕ) → left′ q ≡ (left q && not (eqb q y && ltb y stateLimit))) → (q : ℕ) → left′ q ≡ false
+    → (left q ≡ false) ⊎ (q ≡ y)
+taken left left′ {y} is q h = go (left q) refl (eqb q y) refl
+  where
+    go : (b : Bool) → left q ≡ b → (c : Bool) → eqb q y ≡ c → (left q ≡ false) ⊎ (q ≡ y)
+    go false e c k = inl e
+    go true e true k = inr (eqb-true q y k)
+    go true e false k = absurd (clash (is q ∙ rw (e, k)) h)
 
-  pub counted-old : {u : Bool} → u ≡ false → b ≡ a → b ≡ a + cond u 1 0
-  counted-old h e = rw h (omega arith)
+pub stays : (left left′ : ℕ → Bool) (y : ℕ) → ((q : ℕ) → left′ q ≡ (left q && not (eqb q y && ltb y stateLimit))) → (q : ℕ) → left′ q ≡ true → left q ≡ true
+stays left left′ y is q h = and-left (left q) (not (eqb q y && ltb y stateLimit)) (sym (is q) ∙ h)
 
-module _ (g : Automaton) (ends : ℕ → ℕ → Bool) (r p q : ℕ) where
-  -- some symbol leads to a pair told apart within r
-  abbrev leading : Bool
-  leading = any (g .symbols) (onward g ends r p q)
+-- ---- one symbol
 
-  told-step : told g ends (suc r) p q ≡ (told g ends r p q || leading)
-  unfolding told
-  told-step = refl
+-- of the rows that a leads to x, all but those left are done
+abbrev pub butLeft : (ℕ → Bool) → (ℕ → ℕ → Bool) → ℕ → ℕ → Bool
+butLeft left more p b = more p b && not (left p)
 
-  module _ (fits : r + 1 < never) {e : ℕ} (s : Stage g ends r p q e) where
-    -- a pair without a distance yet, and one with
-    untold : e ≡ never → told g ends r p q ≡ false
-    untold n = s .agrees r (le-refl r) ∙ lt-leb e r (omega arith)
+-- a row that is left leads to x
+row-leads : (g : Automaton) (x a : ℕ) {ends : ℕ → ℕ → Bool} {sets : List ℕ} (left : ℕ → Bool) → ((q : ℕ) → left q ≡ true → setAt sets (x * symbolLimit + a) q ≡ true)
+    → (y : ℕ) → left y ≡ true → x < stateLimit → a < g .symbols → Ground g ends sets → (y < g .states) × (g .next y a ≡ x)
+row-leads g x a left inside y h lx la G =
+    let k = sym (G .preceding .at x a y lx la) ∙ inside y h in (
+      ltb-true y (g .states) (and-left (ltb y (g .states)) (eqb (g .next y a) x) k),
+      eqb-true (g .next y a) x (and-right (ltb y (g .states)) (eqb (g .next y a) x) k),
+    )
 
-    noted-le : (e ≡ never → ⊥) → e ≤ r
-    noted-le n = ⊎-elim (λ l. l) (λ h. absurd (n h)) (s .known)
+module _ (g : Automaton) (x a : ℕ) {r : ℕ} {front : ℕ → Bool} {sets square₀ alike₀ next₀ : List ℕ} {rows₀ : ℕ → Bool} where
+  -- at the beginning all rows are left
+  pub symbol-begins : (left : ℕ → Bool) → x < stateLimit → a < g .symbols → ((q : ℕ) → left q ≡ setAt sets (x * symbolLimit + a) q)
+      → GoesAt g r x front (butLeft left (symbolDone g x a)) sets square₀ alike₀ next₀ rows₀ square₀ alike₀ next₀ rows₀
+  symbol-begins left lx la is = record {
+    goes = λ ends done G F M.
+        midway-less M (λ p b lp lb t. ⊎-elim
+        (λ o. o)
+        (λ h.
+        let k = lost (symbolDone g x a p b) (left p) h in
+        let ex = and-left (eqb (g .next p b) x) (eqb b a) (k .0) in
+        let eb = eqb-true b a (and-right (eqb (g .next p b) x) (eqb b a) (k .0)) in
+        absurd (clash (is p ∙ G .preceding .at x a p lx la ∙ and-both (ltb p (g .states)) (eqb (g .next p a) x) (lt-ltb p (g .states) lp) (rw (← eb) ex)) (k .1)))
+        (or-cases (done p b) (butLeft left (symbolDone g x a) p b) t));
+  }
 
-    noted-told : (e ≡ never → ⊥) → told g ends r p q ≡ true
-    noted-told n = s .agrees r (le-refl r) ∙ le-leb e r (noted-le n)
+  -- one row more
+  pub symbol-more : (left left′ : ℕ → Bool) {y : ℕ} {square alike next square′ alike′ next′ : List ℕ} {rows rows′ : ℕ → Bool}
+      → ((q : ℕ) → left q ≡ true → setAt sets (x * symbolLimit + a) q ≡ true) → y ≡ first left 0 stateLimit → y < stateLimit
+      → x < stateLimit → a < g .symbols
+      → ((q : ℕ) → left′ q ≡ (left q && not (eqb q y && ltb y stateLimit)))
+      → GoesAt g r x front (butLeft left (symbolDone g x a)) sets square₀ alike₀ next₀ rows₀ square alike next rows
+      → (y < g .states → GoesAt g r (g .next y a) front (rowDone y a) sets square alike next rows square′ alike′ next′ rows′)
+      → GoesAt g r x front (butLeft left′ (symbolDone g x a)) sets square₀ alike₀ next₀ rows₀ square′ alike′ next′ rows′
+  symbol-more left left′ {y} inside ey ly lx la is before step = record {
+    goes = λ ends done G F M.
+        let row = row-leads g x a left inside y (lowest-in left ey ly) lx la G in
+        let e = row .1 in
+        midway-less (step (row .0) .goes ends (λ p b. done p b || butLeft left (symbolDone g x a) p b) G (rw e F) (before .goes ends done G F M))
+        (λ p b lp lb t. ⊎-elim
+        (λ o. or-left (done p b || butLeft left (symbolDone g x a) p b) (rowDone y a p b) (or-left (done p b) (butLeft left (symbolDone g x a) p b) o))
+        (λ h.
+        let k = lost (symbolDone g x a p b) (left′ p) h in
+        ⊎-elim
+        (λ w. or-left (done p b || butLeft left (symbolDone g x a) p b) (rowDone y a p b)
+        (or-right (done p b) (butLeft left (symbolDone g x a) p b) (keep (k .0) w)))
+        (λ w. or-right (done p b || butLeft left (symbolDone g x a) p b) (rowDone y a p b)
+        (and-both (eqb p y) (eqb b a) (eq-eqb p y w) (and-right (eqb (g .next p b) x) (eqb b a) (k .0))))
+        (taken left left′ is p (k .1)))
+        (or-cases (done p b) (butLeft left′ (symbolDone g x a) p b) t));
+  }
 
-    -- f is the entry after the round
-    stage-on : (f : ℕ) → ((t : ℕ) → t ≤ r → leb e t ≡ leb f t) → told g ends (suc r) p q ≡ leb f (suc r) → (f ≤ suc r) ⊎ (f ≡ never)
-        → Stage g ends (suc r) p q f
-    stage-on f old new known = record {
-      agrees = λ t l. ⊎-elim
-          (λ (h : t < suc r). s .agrees t (omega arith) ∙ old t (omega arith))
-          (λ h. (let z : suc r ≡ t = omega arith in subst (λ (x : ℕ). told g ends x p q ≡ leb f x) z new))
-          (lt-or-le t (suc r));
-      known = known;
-    }
+  pub symbol-ends : (left : ℕ → Bool) {y : ℕ} {square alike next : List ℕ} {rows : ℕ → Bool} → y ≡ first left 0 stateLimit → stateLimit ≤ y
+      → GoesAt g r x front (butLeft left (symbolDone g x a)) sets square₀ alike₀ next₀ rows₀ square alike next rows
+      → GoesAt g r x front (symbolDone g x a) sets square₀ alike₀ next₀ rows₀ square alike next rows
+  symbol-ends left ey l before = record {
+    goes = λ ends done G F M.
+        midway-less (before .goes ends done G F M) (λ p b lp lb t. ⊎-elim
+        (λ o. or-left (done p b) (butLeft left (symbolDone g x a) p b) o)
+        (λ h. or-right (done p b) (butLeft left (symbolDone g x a) p b)
+        (keep h (lowest-none left ey l p (let m = G .small in omega (arith, lp, m)))))
+        (or-cases (done p b) (symbolDone g x a p b) t));
+  }
 
-    pub stage-next : {b : Bool} → b ≡ leading → Stage g ends (suc r) p q (cond (eqb e never && b) (r + 1) e)
-    stage-next {b} l = go (eqb e never) refl b l
-      where
-        go : (c : Bool) → eqb e never ≡ c → (b : Bool) → b ≡ leading → Stage g ends (suc r) p q (cond (c && b) (r + 1) e)
-        go false h b l =
-            let m : e ≤ r = noted-le (eqb-false e never h) in
-            stage-on e (λ t _. refl) (told-more g ends r p q (noted-told (eqb-false e never h)) ∙ sym (le-leb e (suc r) (omega arith))) (inl (omega arith))
-        go true h true l =
-            let z : e ≡ never = eqb-true e never h in
-            stage-on (r + 1) (λ t k. lt-leb e t (omega arith) ∙ sym (lt-leb (r + 1) t (omega arith)))
-            (told-step ∙ or-right (told g ends r p q) leading (sym l) ∙ sym (le-leb (r + 1) (suc r) (omega arith))) (inl (omega arith))
-        go true h false l =
-            let z : e ≡ never = eqb-true e never h in
-            stage-on e (λ t _. refl) (told-step ∙ rw (untold z, sym l) (sym (lt-leb e (suc r) (omega arith)))) (inr z)
+  -- ---- one state
 
-    -- the round adds nothing
-    pub stage-same : {b : Bool} → b ≡ leading → (eqb e never && b) ≡ false → told g ends (suc r) p q ≡ told g ends r p q
-    stage-same {b} l = go (eqb e never) refl b l
-      where
-        go : (c : Bool) → eqb e never ≡ c → (b : Bool) → b ≡ leading → (c && b) ≡ false → told g ends (suc r) p q ≡ told g ends r p q
-        go false h b l n = (let t = noted-told (eqb-false e never h) in told-more g ends r p q t ∙ sym t)
-        go true h true l n = absurd (clash refl n)
-        go true h false l n = told-step ∙ rw (untold (eqb-true e never h), sym l)
+  pub state-begins : GoesAt g r x front (stateDone g x 0) sets square₀ alike₀ next₀ rows₀ square₀ alike₀ next₀ rows₀
+  state-begins = record {
+    goes = λ ends done G F M.
+        midway-less M (λ p b lp lb t. ⊎-elim
+        (λ o. o)
+        (λ h. absurd (clash (and-right (eqb (g .next p b) x) (ltb b 0) h) (le-ltb b 0 zero-le)))
+        (or-cases (done p b) (stateDone g x 0 p b) t));
+  }
 
-    pub stage-new : {b : Bool} → b ≡ leading → (eqb e never && b) ≡ true → p < g .states → q < g .states → New g ends r
-    stage-new {b} l n lp lq = record {
-      first = p;
-      second = q;
-      first-in = lp;
-      second-in = lq;
-      not-yet = untold (eqb-true e never (and-left (eqb e never) b n));
-      now = told-step ∙ or-right (told g ends r p q) leading (sym l ∙ and-right (eqb e never) b n);
-    }
+  pub state-more : {square alike next square′ alike′ next′ : List ℕ} {rows rows′ : ℕ → Bool}
+      → GoesAt g r x front (stateDone g x a) sets square₀ alike₀ next₀ rows₀ square alike next rows
+      → GoesAt g r x front (symbolDone g x a) sets square alike next rows square′ alike′ next′ rows′
+      → GoesAt g r x front (stateDone g x (a + 1)) sets square₀ alike₀ next₀ rows₀ square′ alike′ next′ rows′
+  state-more before step = record {
+    goes = λ ends done G F M.
+        midway-less (step .goes ends (λ p b. done p b || stateDone g x a p b) G F (before .goes ends done G F M)) (λ p b lp lb t. ⊎-elim
+        (λ o. or-left (done p b || stateDone g x a p b) (symbolDone g x a p b) (or-left (done p b) (stateDone g x a p b) o))
+        (λ h.
+        let ex = and-left (eqb (g .next p b) x) (ltb b (a + 1)) h in
+        let l = ltb-true b (a + 1) (and-right (eqb (g .next p b) x) (ltb b (a + 1)) h) in
+        ⊎-elim
+        (λ (k : b < a). or-left (done p b || stateDone g x a p b) (symbolDone g x a p b)
+        (or-right (done p b) (stateDone g x a p b) (and-both (eqb (g .next p b) x) (ltb b a) ex (lt-ltb b a k))))
+        (λ k. or-right (done p b || stateDone g x a p b) (symbolDone g x a p b)
+        (and-both (eqb (g .next p b) x) (eqb b a) ex (eq-eqb b a (omega (arith, k, l)))))
+        (lt-or-le b a))
+        (or-cases (done p b) (stateDone g x (a + 1) p b) t));
+  }
 
 -- ---- one round
 
--- no pair has had the round
-midway-start : {g : Automaton} {ends : ℕ → ℕ → Bool} {r : ℕ} {square : List ℕ} → length square ≡ squareSize
-    → ((p q : ℕ) → p < g .states → q < g .states → Stage g ends r p q (entry square p q)) → Midway g ends r 0 0 square
-midway-start e s = record {
-  size = e;
-  done = λ p q lp lq l. absurd (omega arith);
-  rest = λ p q lp lq _. s p q lp lq;
-  still = λ _ p q lp lq l. absurd (omega arith);
-  moved = λ l. absurd (omega arith);
-}
+-- the rows that lead to a state which is in the set and not left are done; the fresh states of those left are as they were
+pub record Spreading (g : Automaton) (ends : ℕ → ℕ → Bool) (r : ℕ) (rows left : ℕ → Bool) (fresh₀ fresh square alike next : List ℕ)
+    (found : ℕ → Bool) : Type 0 where
+  pub midway : Midway g ends r (λ p a. rows (g .next p a) && not (left (g .next p a))) square alike next found
+  pub size : length fresh ≡ stateLimit
+  pub within : (x : ℕ) → left x ≡ true → rows x ≡ true
+  pub fresh-left : (x q : ℕ) → x < g .states → setAt fresh x q ≡ (left x && setAt fresh₀ x q)
 
-module _ {g : Automaton} (c : Closed g) (m : g .states ≤ stateLimit) {ends : ℕ → ℕ → Bool} {r : ℕ} where
-  -- the test of an entry says whether the pair is told apart within r, whether or not the pair has had the round
-  test-told : {i a : ℕ} {square : List ℕ} → Midway g ends r i a square → (p q : ℕ) → p < g .states → q < g .states
-      → leb (entry square p q) r ≡ told g ends r p q
-  test-told {i} {a} {square} w p q lp lq =
-      ⊎-elim
-      (λ l. sym (w .done p q lp lq l .agrees r (omega arith)))
-      (λ l. sym (w .rest p q lp lq l .agrees r (le-refl r)))
-      (lt-or-le (place p q) i)
-
-  leads-told : {i a : ℕ} {square : List ℕ} → Midway g ends r i a square → (p q : ℕ) → p < g .states → q < g .states
-      → leadsWithin g square r p q ≡ leading g ends r p q
-  leads-told {i} {a} {square} w p q lp lq =
-      any-same (g .symbols) (within g square r p q) (onward g ends r p q)
-      (λ x l. test-told w (g .next p x) (g .next q x) (c .next-in p x lp l) (c .next-in q x lq l))
-
-  module _ (fits : r + 1 < never) (p q : ℕ) (lp : p < g .states) (lq : q < g .states) {a : ℕ} {square : List ℕ} (w : Midway g ends r (place p q) a square) where
-    abbrev new : Bool → List ℕ
-    new u = stored square p q (r + 1) u
-
-    elsewhere : (u : Bool) (x y : ℕ) → (place x y ≡ place p q → ⊥) → entry square x y ≡ entry (new u) x y
-    elsewhere u x y ne = sym (stored-elsewhere square (w .size) p q (r + 1) u x y ne)
-
-    stage-here : Stage g ends r p q (entry square p q)
-    stage-here = w .rest p q lp lq (le-refl (place p q))
-
-    leads : leadsWithin g square r p q ≡ leading g ends r p q
-    leads = leads-told w p q lp lq
-
-    none : (u : Bool) → a + cond u 1 0 ≡ 0 → u ≡ false
-    none true z = absurd (omega arith)
-    none false z = refl
-
-    some : (u : Bool) → adds g square r p q ≡ u → 0 < a + cond u 1 0 → New g ends r
-    some true h z = stage-new g ends r p q fits stage-here leads h lp lq
-    some false h z = w .moved (omega arith)
-
-    -- p and q have the round
-    turned : Midway g ends r (place p (q + 1)) (a + cond (adds g square r p q) 1 0) (new (adds g square r p q))
-    turned =
-        let u = adds g square r p q in
-        record {
-          size = stored-size square (w .size) p q (r + 1) u;
-          done = one-more (λ x y. Stage g ends (suc r) x y (entry (new u) x y)) (g .states) p q m lq
-              (λ x y lx ly l. subst (Stage g ends (suc r) x y) (elsewhere u x y (λ h. omega arith)) (w .done x y lx ly l))
-              (subst (Stage g ends (suc r) p q) (sym (stored-here square (w .size) p q (r + 1) (omega arith) (omega arith) u))
-              (stage-next g ends r p q fits stage-here leads));
-          rest = λ x y lx ly l. subst (Stage g ends r x y) (elsewhere u x y (λ h. omega arith)) (w .rest x y lx ly (omega arith));
-          still = λ z. one-more (λ x y. told g ends (suc r) x y ≡ told g ends r x y) (g .states) p q m lq (w .still (omega arith))
-              (stage-same g ends r p q fits stage-here leads (none u z));
-          moved = some u refl;
-        }
-
-    pub midway-turn : {u : Bool} {b : ℕ} {e : List ℕ} → u ≡ adds g square r p q → b ≡ a + cond u 1 0 → e ≡ new u → Midway g ends r (place p (q + 1)) b e
-    midway-turn h l k = rw (k, l, h) turned
-
-  -- row p has had the round
-  pub midway-row : (p q : ℕ) {a : ℕ} {square : List ℕ} → Midway g ends r (place p q) a square → q ≤ g .states → g .states ≤ q
-      → Midway g ends r ((p + 1) * stateLimit) a square
-  midway-row p q w u e = record {
-    size = w .size;
-    done = λ x y lx ly l. w .done x y lx ly (row-done (g .states) p q x y m e ly l);
-    rest = λ x y lx ly l. w .rest x y lx ly (omega arith);
-    still = λ z x y lx ly l. w .still z x y lx ly (row-done (g .states) p q x y m e ly l);
-    moved = w .moved;
+module _ {g : Automaton} {ends : ℕ → ℕ → Bool} {r : ℕ} {square₀ alike₀ fresh₀ : List ℕ} {rows : ℕ → Bool} {sets : List ℕ} (G : Ground g ends sets)
+    (L : Layer g ends r square₀ alike₀ fresh₀ rows) where
+  pub spreading-begins : {next : List ℕ} {found : ℕ → Bool} → r + 1 < never → Empty (g .states) next → ((p : ℕ) → found p ≡ false)
+      → Spreading g ends r rows rows fresh₀ fresh₀ square₀ alike₀ next found
+  spreading-begins {next} {found} fits N none = record {
+    midway = record {
+      kept = record {
+        size = M .kept .size;
+        alike-size = M .kept .alike-size;
+        fresh-size = M .kept .fresh-size;
+        alike-is = M .kept .alike-is;
+        fresh-is = M .kept .fresh-is;
+        rows-some = λ p t. absurd (clash t (none p));
+        rows-all = λ p q lp t. absurd (clash t (N .none p q lp));
+      };
+      old = M .old;
+      known = M .known;
+      new = M .new;
+      covered = λ p q a lp lq la d. (let h = lost (rows (g .next p a)) (rows (g .next p a)) d in absurd (clash (h .0) (h .1)));
+    };
+    size = L .kept .fresh-size;
+    within = λ x t. t;
+    fresh-left = λ x q lx. at-first x q lx (rows x) refl;
   }
+    where
+      at-first : (x q : ℕ) → x < g .states → (b : Bool) → rows x ≡ b → setAt fresh₀ x q ≡ (b && setAt fresh₀ x q)
+      at-first x q lx true e = refl
+      at-first x q lx false e = not-clash (λ t. clash (L .kept .rows-all x q lx t) e)
 
-  -- ---- all pairs have had the round
+      M : Midway g ends r (λ p a. false) square₀ alike₀ next (λ p. false)
+      M = layer-begins L fits N
 
-  module _ {b : ℕ} {square : List ℕ} (w : Midway g ends r (g .states * stateLimit) b square) where
-    whole : (p q : ℕ) → p < g .states → q < g .states → Stage g ends (suc r) p q (entry square p q)
-    whole p q lp lq = w .done p q lp lq (omega arith)
+  module _ {left : ℕ → Bool} {fresh square alike next : List ℕ} {found : ℕ → Bool} (S : Spreading g ends r rows left fresh₀ fresh square alike next found)
+      {x : ℕ} (ex : x ≡ first left 0 stateLimit) where
+    module _ (lx : x < stateLimit) where
+      row-in : x < g .states
+      row-in = L .kept .rows-some x (S .within x (lowest-in left ex lx)) .0
 
-    pub midway-next : Midway g ends (r + 1) 0 0 square
-    midway-next = rw (add-one r) (midway-start (w .size) whole)
-
-    -- a round that adds something is no later than the n * n-th
-    pub added-early : 0 < b → r < g .states * g .states
-    added-early l =
-        let x = w .moved l in
-        ⊎-elim
-        (λ h. h)
-        (λ h. absurd (clash
-        (told-up g ends (g .states * g .states) r (x .first) (x .second) h
-        (told-settled g ends c (suc r) (x .first) (x .second) (x .first-in) (x .second-in) (x .now)))
-        (x .not-yet)))
-        (lt-or-le r (g .states * g .states))
-
-    -- all rounds before added something, and so does this one
-    pub rounds-more : 0 < b → ((s : ℕ) → s < r → New g ends s) → (s : ℕ) → s < r + 1 → New g ends s
-    rounds-more l new s h = ⊎-elim (new s) (λ e. (let z : r ≡ s = omega arith in subst (New g ends) z (w .moved l))) (lt-or-le s r)
-
-    -- this round is the first that adds nothing
-    pub rounds-end : b ≤ 0 → ((s : ℕ) → s < r → New g ends s) → Rounds g ends r
-    rounds-end l new = record { still = λ p q lp lq. w .still (omega arith) p q lp lq (omega arith); new = new }
-
-    -- a round that added nothing: the square is finished
-    module _ (fits : r + 1 < never) (z : b ≤ 0) where
-      module _ (p q : ℕ) (lp : p < g .states) (lq : q < g .states) where
-        entry-told : (v : List ℕ) → Tells g ends p q v → entry square p q ≤ r
-        entry-told v t =
-            leb-true (entry square p q) r (sym (whole p q lp lq .agrees r (omega arith))
-            ∙ still-ever g ends c r (length v) p q (λ x y lx ly. w .still (omega arith) x y lx ly (omega arith)) lp lq
-            (told-complete g ends (length v) p q v (le-refl (length v)) t))
-
-        entry-least : (v : List ℕ) → Tells g ends p q v → entry square p q ≤ length v
-        entry-least v t =
+      pub spreading-more : {k : ℕ} {front left′ none : ℕ → Bool} {fresh′ square′ alike′ next′ : List ℕ} {found′ : ℕ → Bool} → g .symbols ≡ k
+          → ((q : ℕ) → front q ≡ setAt fresh x q)
+          → ((q : ℕ) → none q ≡ false) → (x < length fresh → Put fresh x none fresh′)
+          → GoesAt g r x front (stateDone g x k) sets square alike next found square′ alike′ next′ found′
+          → ((q : ℕ) → left′ q ≡ (left q && not (eqb q x && ltb x stateLimit)))
+          → Spreading g ends r rows left′ fresh₀ fresh′ square′ alike′ next′ found′
+      spreading-more {k} {front} {left′} {none} {fresh′} ek is bare put step out = record {
+        midway = midway-less (step .goes ends (λ p a. rows (g .next p a) && not (left (g .next p a))) G
+            (front-same (layer-front L x row-in) (λ y. is y ∙ S .fresh-left x y row-in ∙ rw (lowest-in left ex lx))) (S .midway))
+            (λ p a lp la t.
+            let h = lost (rows (g .next p a)) (left′ (g .next p a)) t in
             ⊎-elim
-            (λ (l : r < length v). omega (arith, entry-told v t))
-            (λ l. leb-true (entry square p q) (length v)
-            (sym (whole p q lp lq .agrees (length v) (omega arith)) ∙ told-complete g ends (length v) p q v (le-refl (length v)) t))
-            (lt-or-le r (length v))
+            (λ w. or-left (rows (g .next p a) && not (left (g .next p a))) (stateDone g x k p a) (keep (h .0) w))
+            (λ w. or-right (rows (g .next p a) && not (left (g .next p a))) (stateDone g x k p a)
+            (and-both (eqb (g .next p a) x) (ltb a k) (eq-eqb (g .next p a) x w) (lt-ltb a k (omega (arith, la, ek)))))
+            (taken left left′ out (g .next p a) (h .1)));
+        size = P .size ∙ S .size;
+        within = λ z t. S .within z (stays left left′ x out z t);
+        fresh-left = λ z q lz. by z q lz (eqb z x) refl;
+      }
+        where
+          P : Put fresh x none fresh′
+          P = put (let z = S .size in omega (arith, z, lx))
 
-        shortest : entry square p q ≤ suc r → Shortest (Tells g ends p q) (entry square p q)
-        shortest l =
-            let f = told-sound g ends (entry square p q) p q
-            (whole p q lp lq .agrees (entry square p q) l ∙ le-leb (entry square p q) (entry square p q) (le-refl (entry square p q))) in
-            record { word = f .word; has = f .tells; long = omega (arith, f .short, entry-least (f .word) (f .tells)); least = entry-least }
+          by : (z q : ℕ) → z < g .states → (b : Bool) → eqb z x ≡ b → setAt fresh′ z q ≡ (left′ z && setAt fresh₀ z q)
+          by z q lz true h =
+              let e = eqb-true z x h in
+              rw e (P .here q ∙ bare q ∙ rw (out x, eq-eqb x x refl, lt-ltb x stateLimit lx, lowest-in left ex lx))
+          by z q lz false h = P .elsewhere z q (eqb-false z x h) ∙ S .fresh-left z q lz ∙ rw (out z, h) (go (left z))
+            where
+              go : (b : Bool) → (b && setAt fresh₀ z q) ≡ ((b && true) && setAt fresh₀ z q)
+              go true = refl
+              go false = refl
 
-        entry-noted : Noted (Tells g ends p q) (entry square p q)
-        entry-noted = record {
-          most = ⊎-elim (λ l. omega (arith, l)) (λ h. omega (arith, h)) (whole p q lp lq .known);
-          found = λ l. shortest (⊎-elim (λ h. h) (λ h. absurd (omega arith)) (whole p q lp lq .known));
-          none = λ h v t. omega (arith, entry-told v t);
-        }
-
-      pub squared : Squared g ends square
-      squared = record { size = w .size; noted = entry-noted }
-
--- ---- before the first round
-
-at-zero : (e : ℕ) → eqb e 0 ≡ leb e 0
-at-zero zero = refl
-at-zero (suc e) = eqb·suc-zero e ∙ sym (leb·suc-zero e)
-
-pub midway-first : {g : Automaton} {square : List ℕ} → Fresh (g .states) square → Midway g (apartAtOnce square) 0 0 0 square
-unfolding told
-midway-first {g} {square} f =
-    midway-start (f .size) (λ p q lp lq. record {
-      agrees = λ s l. (let z : 0 ≡ s = omega arith in
-          subst (λ (x : ℕ). told g (apartAtOnce square) x p q ≡ leb (entry square p q) x) z (at-zero (entry square p q)));
-      known = ⊎-elim (λ h. inl (omega arith)) (λ h. inr h) (f .either p q lp lq);
-    })
-
--- at most n * n rounds add something, and they are few
-pub few-rounds : {n : ℕ} → n ≤ stateLimit → n * n ≤ squareSize
-few-rounds m = mul-le-mul m m
-
--- only the test on states matters
-pub squared-same : {g : Automaton} {f h : ℕ → ℕ → Bool} {square : List ℕ} → Closed g → ((p q : ℕ) → p < g .states → q < g .states → f p q ≡ h p q)
-    → Squared g f square
-    → Squared g h square
-squared-same {g} {f} {h} {square} c e s = record { size = s .size; noted = λ p q lp lq. noted p q lp lq (s .noted p q lp lq) }
-  where
-    noted : (p q : ℕ) → p < g .states → q < g .states → Noted (Tells g f p q) (entry square p q) → Noted (Tells g h p q) (entry square p q)
-    noted p q lp lq x = record {
-      most = x .most;
-      found = λ l. (let y = x .found l in
-          record { word = y .word; has = tells-same g f h c e p q (y .word) lp lq (y .has); long = y .long; least = λ v t. y .least v (back v t) });
-      none = λ z v t. x .none z v (back v t);
-    }
-      where
-        back : (v : List ℕ) → Tells g h p q v → Tells g f p q v
-        back v t = tells-same g h f c (λ i j li lj. sym (e i j li lj)) p q v lp lq t
+    pub spreading-ends : stateLimit ≤ x → Layer g ends (suc r) square alike next found × Empty (g .states) fresh
+    spreading-ends l = (
+      layer-next L (G .closed) (S .midway) (λ p a lp la t. keep t (lowest-none left ex l (g .next p a)
+          (let m = G .closed .next-in p a lp la in let n = G .small in omega (arith, m, n)))),
+      record { size = S .size; none = λ z q lz. S .fresh-left z q lz ∙ rw (lowest-none left ex l z (let n = G .small in omega (arith, lz, n))) },
+    )

@@ -1,15 +1,22 @@
 // The square of pair distances: for every two states, the fewest symbols that tell them apart.
+use state_set::StateSet;
 use theory::SQUARE_SIZE;
 use theory::STATE_LIMIT;
+use theory::SYMBOL_LIMIT;
 ghost use mathlib.Core.Path.{_≡_};
-ghost use Prim.Native.Nat.{_+_, _*_, _≤_, _<_};
+ghost use mathlib.Core.Bool.{Bool, false, _&&_};
+ghost use Prim.Native.Nat.{ℕ, suc, _+_, _*_, _≤_, _<_};
+ghost use lib.Dec.{eqb, ltb};
 ghost use lib.ListN.{length};
 ghost use lib.Seq.{sets};
-ghost use Rattle.theory.specs.Automaton.{run};
-ghost use Rattle.theory.specs.Monitor.{stateLimit};
+ghost use Rattle.theory.specs.Below.{first};
+ghost use Rattle.theory.specs.Automaton.{Automaton, Closed, run};
+ghost use Rattle.theory.specs.Monitor.{stateLimit, symbolLimit};
+ghost use Rattle.state_set.specs.Member.{member};
 ghost use Rattle.monitor.specs.Format.{Rows, graph};
-ghost use Rattle.pairs.specs.Square.{never, entry, stored, Squared, Rounds, passes, passing, Blank, Entered};
-ghost use Rattle.pairs.specs.Square.{apartAtOnce, Fresh, leadsWithin, adds, RoundGoesOn, nearer, Falling, apart};
+ghost use Rattle.pairs.specs.Square.{never, squareSize, entry, Squared, passes, passing, nearer, Falling, apart};
+ghost use Rattle.pairs.specs.Layers.{setAt, Put, Empty, Preceding, upTo, Into, Entered, Begun};
+ghost use Rattle.pairs.specs.Layers.{Ground, Layer, GoesAt, rowDone, symbolDone, stateDone};
 
 // Not told apart. Any smaller number counts symbols.
 pub const NEVER: usize = 65535;
@@ -43,13 +50,6 @@ impl Test {
     }
 }
 
-// The square filled with "not told apart".
-fn blank() -> [u16; SQUARE_SIZE]
-    ensures { λ r. ⌜ Blank r ⌝ }
-{
-    [NEVER_ENTRY; SQUARE_SIZE]
-}
-
 // An entry as a number of symbols.
 fn wide(entry: u16) -> usize
     ensures { λ r. ⌜ (r ≡ entry)
@@ -68,174 +68,365 @@ pub fn entry_at(square: &[u16; SQUARE_SIZE], p: usize, q: usize) -> usize
     wide(square[p * STATE_LIMIT + q])
 }
 
-// Enters 0 for p and q where their outputs pass the test.
-fn enter_pair(square: &mut [u16; SQUARE_SIZE], outputs: &[u8], test: Test, p: usize, q: usize)
-    requires { ⌜ (length (now outputs) ≤ stateLimit)
-        × (p < length (now outputs))
-        × (q < length (now outputs)) ⌝ }
-    ensures { λ _. ⌜ now (square .exit) ≡ stored (now (square .entry)) p q 0
-        (passing test (now (outputs .entry)) p q) ⌝ }
+// ---- sets of states in arrays, each held as a word
+
+// The set at place p.
+fn set_of(sets: &[u64; STATE_LIMIT], p: usize) -> StateSet
+    requires { ⌜ p < stateLimit ⌝ }
+    ensures { λ r. ⌜ ((q : ℕ) → member r q ≡ setAt (now (sets .entry)) p q) ⌝ }
 {
-    if test.passes(outputs[p], outputs[q]) {
-        square[p * STATE_LIMIT + q] = 0;
-    }
+    StateSet::of(sets[p])
 }
 
-// Enters 0 in row p for each state whose output differs from that of p.
-fn enter_row(square: &mut [u16; SQUARE_SIZE], outputs: &[u8], test: Test, p: usize)
-    requires { ⌜ (length (now outputs) ≤ stateLimit)
-        × (p < length (now outputs))
-        × Entered test (now outputs) (p * stateLimit) (now square) ⌝ }
-    ensures { λ _. ⌜ Entered test (now (outputs .entry)) ((p + 1) * stateLimit) (now (square .exit)) ⌝ }
+// Puts a set at place p.
+fn put(sets: &mut [u64; STATE_LIMIT], p: usize, set: StateSet)
+    requires { ⌜ p < stateLimit ⌝ }
+    ensures { λ _. ⌜ (p < length (now (sets .entry)) → Put (now (sets .entry)) p (member set) (now (sets .exit))) ⌝ }
 {
-    let mut q = 0;
-    while q < outputs.len() {
-        enter_pair(square, outputs, test, p, q);
-        q += 1;
-    }
+    sets[p] = set.word();
 }
 
-// The square before the first round: states whose outputs differ are told apart by no symbol.
-fn enter_outputs(square: &mut [u16; SQUARE_SIZE], outputs: &[u8], test: Test)
-    requires { ⌜ (length (now outputs) ≤ stateLimit)
-        × Blank (now square) ⌝ }
-    ensures { λ _. ⌜ Entered test (now (outputs .entry))
-        (length (now (outputs .entry)) * stateLimit) (now (square .exit)) ⌝ }
+// Whether no state is in the set.
+fn is_empty(set: StateSet) -> bool
+    ensures { λ r. ⌜ r ≡ eqb (first (member set) 0 stateLimit) stateLimit ⌝ }
 {
-    let mut p = 0;
-    while p < outputs.len() {
-        enter_row(square, outputs, test, p);
-        p += 1;
-    }
+    set.lowest() == STATE_LIMIT
 }
 
-// Whether some symbol leads from p and q to a pair told apart within r.
-fn leads_within(
-    square: &[u16; SQUARE_SIZE],
-    nexts: &[u8],
-    n: usize,
-    k: usize,
-    r: u16,
-    p: usize,
-    q: usize,
-) -> bool
+// ---- predecessors
+
+// How many sets of predecessors there are: one for each state and symbol.
+const PREDECESSORS: usize = STATE_LIMIT * SYMBOL_LIMIT;
+
+// Puts p among the predecessors of each of its successors.
+fn enter_predecessor(sets: &mut [u64; PREDECESSORS], nexts: &[u8], n: usize, k: usize, p: usize)
     requires { ⌜ Rows stateLimit n k (now nexts)
         × (p < n)
-        × (q < n) ⌝ }
-    ensures { λ b. ⌜ b ≡ leadsWithin (graph n k (nexts .entry)) (now (square .entry)) r p q ⌝ }
+        × Preceding (graph n k nexts) (upTo p 0) (now sets) ⌝ }
+    ensures { λ _. ⌜ Preceding (graph n k (nexts .entry)) (upTo p k) (now (sets .exit)) ⌝ }
 {
     let mut a = 0;
     while a < k {
-        let x = monitor::successor(nexts, n, k, p, a);
-        let y = monitor::successor(nexts, n, k, q, a);
-        if square[x * STATE_LIMIT + y] <= r {
-            return true;
-        }
+        let i = monitor::successor(nexts, n, k, p, a) * SYMBOL_LIMIT + a;
+        sets[i] = StateSet::of(sets[i]).with(p).word();
         a += 1;
     }
-    false
 }
 
-// The round after r at one pair. Returns whether the pair is new.
-fn refine_pair(
-    square: &mut [u16; SQUARE_SIZE],
-    nexts: &[u8],
-    n: usize,
-    k: usize,
-    r: u16,
-    p: usize,
-    q: usize,
-) -> bool
-    requires { ⌜ Rows stateLimit n k (now nexts)
-        × (r + 1 < never)
-        × (p < n)
-        × (q < n) ⌝ }
-    ensures added { λ b. ⌜ b ≡ adds (graph n k (nexts .entry)) (now (square .entry)) r p q ⌝ }
-    ensures square { λ b. ⌜ now (square .exit) ≡ stored (now (square .entry)) p q (r + 1) b ⌝ }
+// For each state and symbol, the states from which the symbol leads there.
+fn predecessors(nexts: &[u8], n: usize, k: usize) -> [u64; PREDECESSORS]
+    requires { ⌜ Rows stateLimit n k (now nexts) ⌝ }
+    ensures { λ r. ⌜ Preceding (graph n k (nexts .entry)) (λ p a. ltb p n) r ⌝ }
 {
-    if entry_at(square, p, q) != NEVER {
-        return false;
+    let mut sets = [0u64; PREDECESSORS];
+    let mut p = 0;
+    while p < n {
+        enter_predecessor(&mut sets, nexts, n, k, p);
+        p += 1;
     }
-    if leads_within(square, nexts, n, k, r, p, q) {
-        square[p * STATE_LIMIT + q] = r + 1;
-        return true;
-    }
-    false
+    sets
 }
 
-// The round after r in row p. Counts on from `added` the pairs that are new.
-fn refine_row(
+// The predecessors of x under symbol a.
+fn predecessors_of(predecessors: &[u64; PREDECESSORS], x: usize, a: usize) -> StateSet
+    requires { ⌜ (x < stateLimit)
+        × (a < symbolLimit) ⌝ }
+    ensures { λ r. ⌜ ((q : ℕ) → member r q ≡ setAt (now (predecessors .entry)) (x * symbolLimit + a) q) ⌝ }
+{
+    StateSet::of(predecessors[x * SYMBOL_LIMIT + a])
+}
+
+// The states from which a leads into the set.
+fn leading_into(predecessors: &[u64; PREDECESSORS], a: usize, set: StateSet) -> StateSet
+    requires { ⌜ a < symbolLimit ⌝ }
+    ensures { λ r. ⌜ ((g : Automaton) → g .states ≤ stateLimit → a < g .symbols
+        → Preceding g (λ p b. ltb p (g .states)) (now (predecessors .entry)) → Closed g
+        → Into g a (member set) (member r)) ⌝ }
+{
+    let mut into = StateSet::empty();
+    let mut left = set;
+    loop {
+        let y = left.lowest();
+        if y >= STATE_LIMIT {
+            return into;
+        }
+        into = into.union(predecessors_of(predecessors, y, a));
+        left = left.without(y);
+    }
+}
+
+// ---- the pairs at distance r + 1, from those at r
+
+// Enters d for p and each state of the set.
+fn enter(square: &mut [u16; SQUARE_SIZE], p: usize, set: StateSet, d: u16)
+    requires { ⌜ p < stateLimit ⌝ }
+    ensures { λ _. ⌜ (length (now (square .entry)) ≡ squareSize
+        → Entered (now (square .entry)) p (member set) d (now (square .exit))) ⌝ }
+{
+    let mut left = set;
+    loop {
+        let q = left.lowest();
+        if q >= STATE_LIMIT {
+            return;
+        }
+        square[p * STATE_LIMIT + q] = d;
+        left = left.without(q);
+    }
+}
+
+// Adds to row p the alike states that a leads into the front: the pair of p's successor and any state of the front is at
+// r. Returns the rows that have a pair at r + 1, beside those given.
+fn spread_row(
     square: &mut [u16; SQUARE_SIZE],
-    nexts: &[u8],
-    n: usize,
+    alike: &mut [u64; STATE_LIMIT],
+    next: &mut [u64; STATE_LIMIT],
+    predecessors: &[u64; PREDECESSORS],
+    p: usize,
+    a: usize,
+    front: StateSet,
+    r: u16,
+    rows: StateSet,
+) -> StateSet
+    requires { ⌜ (p < stateLimit)
+        × (a < symbolLimit)
+        × (r + 1 < never) ⌝ }
+    ensures { λ after. ⌜ ((g : Automaton) → p < g .states → a < g .symbols
+        → GoesAt g r (g .next p a) (member front) (rowDone p a) (now (predecessors .entry))
+        (now (square .entry)) (now (alike .entry)) (now (next .entry)) (member rows)
+        (now (square .exit)) (now (alike .exit)) (now (next .exit)) (member after)) ⌝ }
+{
+    let here = set_of(alike, p);
+    if is_empty(here) {
+        return rows;
+    }
+    let new = here.intersection(leading_into(predecessors, a, front));
+    if is_empty(new) {
+        return rows;
+    }
+    put(alike, p, here.minus(new));
+    put(next, p, set_of(next, p).union(new));
+    enter(square, p, new, r + 1);
+    rows.with(p)
+}
+
+// The same for each row from which a leads to x.
+fn spread_symbol(
+    square: &mut [u16; SQUARE_SIZE],
+    alike: &mut [u64; STATE_LIMIT],
+    next: &mut [u64; STATE_LIMIT],
+    predecessors: &[u64; PREDECESSORS],
+    x: usize,
+    a: usize,
+    front: StateSet,
+    r: u16,
+    rows: StateSet,
+) -> StateSet
+    requires { ⌜ (x < stateLimit)
+        × (a < symbolLimit)
+        × (r + 1 < never) ⌝ }
+    ensures { λ after. ⌜ ((g : Automaton) → a < g .symbols
+        → GoesAt g r x (member front) (symbolDone g x a) (now (predecessors .entry))
+        (now (square .entry)) (now (alike .entry)) (now (next .entry)) (member rows)
+        (now (square .exit)) (now (alike .exit)) (now (next .exit)) (member after)) ⌝ }
+{
+    let mut found = rows;
+    let mut left = predecessors_of(predecessors, x, a);
+    loop {
+        let p = left.lowest();
+        if p >= STATE_LIMIT {
+            return found;
+        }
+        found = spread_row(square, alike, next, predecessors, p, a, front, r, found);
+        left = left.without(p);
+    }
+}
+
+// The same for each symbol.
+fn spread_state(
+    square: &mut [u16; SQUARE_SIZE],
+    alike: &mut [u64; STATE_LIMIT],
+    next: &mut [u64; STATE_LIMIT],
+    predecessors: &[u64; PREDECESSORS],
+    k: usize,
+    x: usize,
+    front: StateSet,
+    r: u16,
+    rows: StateSet,
+) -> StateSet
+    requires { ⌜ (k ≤ symbolLimit)
+        × (x < stateLimit)
+        × (r + 1 < never) ⌝ }
+    ensures { λ after. ⌜ ((g : Automaton) → g .symbols ≡ k
+        → GoesAt g r x (member front) (stateDone g x k) (now (predecessors .entry))
+        (now (square .entry)) (now (alike .entry)) (now (next .entry)) (member rows)
+        (now (square .exit)) (now (alike .exit)) (now (next .exit)) (member after)) ⌝ }
+{
+    let mut found = rows;
+    let mut a = 0;
+    while a < k {
+        found = spread_symbol(square, alike, next, predecessors, x, a, front, r, found);
+        a += 1;
+    }
+    found
+}
+
+// The round after r: from the fresh pairs, which are at r, to those at r + 1, each fresh pair once. The rows are those
+// that have a fresh pair; their sets are empty afterwards. Returns the rows of the next round.
+fn spread(
+    square: &mut [u16; SQUARE_SIZE],
+    alike: &mut [u64; STATE_LIMIT],
+    fresh: &mut [u64; STATE_LIMIT],
+    next: &mut [u64; STATE_LIMIT],
+    predecessors: &[u64; PREDECESSORS],
     k: usize,
     r: u16,
-    p: usize,
-    added: usize,
-) -> usize
-    requires { ⌜ Rows stateLimit n k (now nexts)
-        × (r + 1 < never)
-        × (p < n)
-        × (added ≤ p * stateLimit) ⌝ }
-    ensures few { λ b. ⌜ b ≤ (p + 1) * stateLimit ⌝ }
-    ensures round { λ b. ⌜ RoundGoesOn (graph n k (nexts .entry)) r
-        (p * stateLimit) added (now (square .entry))
-        ((p + 1) * stateLimit) b (now (square .exit)) ⌝ }
+    rows: StateSet,
+) -> StateSet
+    requires { ⌜ (k ≤ symbolLimit)
+        × (r + 1 < never) ⌝ }
+    ensures { λ after. ⌜ ((g : Automaton) (ends : ℕ → ℕ → Bool) → g .symbols ≡ k
+        → Ground g ends (now (predecessors .entry)) → Empty (g .states) (now (next .entry))
+        → Layer g ends r (now (square .entry)) (now (alike .entry)) (now (fresh .entry)) (member rows)
+        → Layer g ends (suc r) (now (square .exit)) (now (alike .exit)) (now (next .exit)) (member after)
+        × Empty (g .states) (now (fresh .exit))) ⌝ }
 {
-    let mut count = added;
+    let mut found = StateSet::empty();
+    let mut left = rows;
+    loop {
+        let x = left.lowest();
+        if x >= STATE_LIMIT {
+            return found;
+        }
+        let front = set_of(fresh, x);
+        put(fresh, x, StateSet::empty());
+        found = spread_state(square, alike, next, predecessors, k, x, front, r, found);
+        left = left.without(x);
+    }
+}
+
+// ---- the square
+
+// The states whose outputs pass the test with that of p, which comes first.
+fn passing_with(outputs: &[u8], test: Test, p: usize) -> StateSet
+    requires { ⌜ (length (now outputs) ≤ stateLimit)
+        × (p < length (now outputs)) ⌝ }
+    ensures { λ r. ⌜ ((q : ℕ) → member r q
+        ≡ (ltb q (length (now (outputs .entry))) && passing test (now (outputs .entry)) p q)) ⌝ }
+{
+    let mut set = StateSet::empty();
     let mut q = 0;
-    while q < n {
-        if refine_pair(square, nexts, n, k, r, p, q) {
-            count += 1;
+    while q < outputs.len() {
+        if test.passes(outputs[p], outputs[q]) {
+            set = set.with(q);
         }
         q += 1;
     }
-    count
+    set
 }
 
-// The round after r: enters r + 1 for every pair that is told apart within r + 1 symbols and not within r. Returns how
-// many, and 0 exactly if there is none.
-fn refine_all(square: &mut [u16; SQUARE_SIZE], nexts: &[u8], n: usize, k: usize, r: u16) -> usize
-    requires { ⌜ Rows stateLimit n k (now nexts)
-        × (r + 1 < never) ⌝ }
-    ensures { λ b. ⌜ RoundGoesOn (graph n k (nexts .entry)) r
-        0 0 (now (square .entry))
-        (n * stateLimit) b (now (square .exit)) ⌝ }
+// The states below n.
+fn all_below(n: usize) -> StateSet
+    requires { ⌜ n ≤ stateLimit ⌝ }
+    ensures { λ r. ⌜ ((q : ℕ) → member r q ≡ ltb q n) ⌝ }
 {
-    let mut added = 0;
+    let mut set = StateSet::empty();
+    let mut q = 0;
+    while q < n {
+        set = set.with(q);
+        q += 1;
+    }
+    set
+}
+
+// Row p before the first round: the states told apart from p at once, and those that are alike, p itself left out.
+// Returns the rows that have a pair at 0, beside those given.
+fn begin_row(
+    square: &mut [u16; SQUARE_SIZE],
+    alike: &mut [u64; STATE_LIMIT],
+    fresh: &mut [u64; STATE_LIMIT],
+    outputs: &[u8],
+    test: Test,
+    all: StateSet,
+    p: usize,
+    rows: StateSet,
+) -> StateSet
+    requires { ⌜ (length (now outputs) ≤ stateLimit)
+        × (p < length (now outputs))
+        × ((q : ℕ) → member all q ≡ ltb q (length (now outputs)))
+        × Begun test (now outputs) p (now square) (now alike) (now fresh) (member rows) ⌝ }
+    ensures { λ r. ⌜ Begun test (now (outputs .entry)) (p + 1)
+        (now (square .exit)) (now (alike .exit)) (now (fresh .exit)) (member r) ⌝ }
+{
+    let apart = passing_with(outputs, test, p);
+    put(alike, p, all.minus(apart).without(p));
+    put(fresh, p, apart);
+    enter(square, p, apart, 0);
+    if is_empty(apart) {
+        return rows;
+    }
+    rows.with(p)
+}
+
+// All rows before the first round. Returns the rows that have a pair at 0.
+fn begin(
+    square: &mut [u16; SQUARE_SIZE],
+    alike: &mut [u64; STATE_LIMIT],
+    fresh: &mut [u64; STATE_LIMIT],
+    outputs: &[u8],
+    test: Test,
+) -> StateSet
+    requires { ⌜ (length (now outputs) ≤ stateLimit)
+        × Begun test (now outputs) 0 (now square) (now alike) (now fresh) (λ q. false) ⌝ }
+    ensures { λ r. ⌜ Begun test (now (outputs .entry)) (length (now (outputs .entry)))
+        (now (square .exit)) (now (alike .exit)) (now (fresh .exit)) (member r) ⌝ }
+{
+    let all = all_below(outputs.len());
+    let mut rows = StateSet::empty();
     let mut p = 0;
-    while p < n {
-        added = refine_row(square, nexts, n, k, r, p, added);
+    while p < outputs.len() {
+        rows = begin_row(square, alike, fresh, outputs, test, all, p, rows);
         p += 1;
     }
-    added
+    rows
 }
 
-// Round by round until a round adds nothing. The pairs that hold 0 are told apart at once; after it every pair holds
-// the fewest symbols that lead to such a pair, or NEVER. Returns how many rounds added a pair.
-fn refine(square: &mut [u16; SQUARE_SIZE], nexts: &[u8], n: usize, k: usize) -> usize
-    requires { ⌜ Rows stateLimit n k (now nexts)
-        × Fresh n (now square) ⌝ }
-    ensures square { λ _. ⌜ Squared (graph n k (nexts .entry))
-        (apartAtOnce (now (square .entry))) (now (square .exit)) ⌝ }
-    ensures rounds { λ r. ⌜ Rounds (graph n k (nexts .entry)) (apartAtOnce (now (square .entry))) r ⌝ }
-{
-    let mut r = 0u16;
-    while refine_all(square, nexts, n, k, r) > 0 {
-        r += 1;
-    }
-    r as usize
-}
-
-// The distance of every two states: the fewest symbols after which their outputs pass the test.
+// The distance of every two states: the fewest symbols after which their outputs pass the test. Round by round, until
+// no pair is fresh; the two arrays of fresh pairs take turns.
 pub fn distances(nexts: &[u8], n: usize, k: usize, outputs: &[u8], test: Test) -> [u16; SQUARE_SIZE]
     requires { ⌜ Rows stateLimit n k (now nexts)
         × (length (now outputs) ≡ n) ⌝ }
     ensures { λ r. ⌜ Squared (graph n k (nexts .entry)) (passing test (now (outputs .entry))) r ⌝ }
 {
-    let mut square = blank();
-    enter_outputs(&mut square, outputs, test);
-    refine(&mut square, nexts, n, k);
+    let mut square = [NEVER_ENTRY; SQUARE_SIZE];
+    let mut alike = [0u64; STATE_LIMIT];
+    let mut fresh = [0u64; STATE_LIMIT];
+    let mut next = [0u64; STATE_LIMIT];
+    let sets = predecessors(nexts, n, k);
+    let mut rows = begin(&mut square, &mut alike, &mut fresh, outputs, test);
+    let mut r = 0u16;
+    while !is_empty(rows) {
+        let found = spread(
+            &mut square,
+            &mut alike,
+            &mut fresh,
+            &mut next,
+            &sets,
+            k,
+            r,
+            rows,
+        );
+        rows = spread(
+            &mut square,
+            &mut alike,
+            &mut next,
+            &mut fresh,
+            &sets,
+            k,
+            r + 1,
+            found,
+        );
+        r += 2;
+    }
     square
 }
 

@@ -6,8 +6,11 @@ use lib.Dec.{eqb, ltb}
 use Rattle.state_set.specs.declared.StateSet.{StateSet}
 
 -- "a set of states is held as one 64-bit word": state q is in it where bit q is set
+unfoldable pub inWord : ℕ → ℕ → Bool
+inWord word q = eqb (word / 2 ^ q % 2) 1
+
 unfoldable pub member : StateSet → ℕ → Bool
-member s q = eqb (s .bits / 2 ^ q % 2) 1
+member s q = inWord (s .bits) q
 
 -- the set holds the states below n that pass the test, and no other
 pub record Exactly (n : ℕ) (f : ℕ → Bool) (s : StateSet) : Type 0 where

@@ -6,7 +6,7 @@ ghost use Prim.Native.Nat.{ℕ};
 ghost use lib.Dec.{eqb, ltb};
 ghost use Rattle.theory.specs.Below.{count, first};
 ghost use Rattle.theory.specs.Monitor.{stateLimit};
-ghost use Rattle.state_set.specs.Member.{member};
+ghost use Rattle.state_set.specs.Member.{inWord, member};
 
 pub struct StateSet {
     bits: u64,
@@ -17,6 +17,20 @@ impl StateSet {
         ensures { λ r. ⌜ ((p : ℕ) → member r p ≡ false) ⌝ }
     {
         Self { bits: 0 }
+    }
+
+    // The set that a word holds.
+    pub fn of(word: u64) -> Self
+        ensures { λ r. ⌜ ((p : ℕ) → member r p ≡ inWord word p) ⌝ }
+    {
+        Self { bits: word }
+    }
+
+    // The word that holds the set.
+    pub fn word(self) -> u64
+        ensures { λ r. ⌜ ((p : ℕ) → inWord r p ≡ member self p) ⌝ }
+    {
+        self.bits
     }
 
     // The set with q in it too. A q that is no state's number adds nothing.
@@ -56,6 +70,22 @@ impl StateSet {
         Self {
             bits: self.bits & !other.bits,
         }
+    }
+
+    // What is in both sets.
+    pub fn intersection(self, other: StateSet) -> Self
+        ensures { λ r. ⌜ ((p : ℕ) → member r p ≡ (member self p && member other p)) ⌝ }
+    {
+        Self {
+            bits: self.bits & other.bits,
+        }
+    }
+
+    // The set without q.
+    pub fn without(self, q: usize) -> Self
+        ensures { λ r. ⌜ ((p : ℕ) → member r p ≡ (member self p && not (eqb p q && ltb q stateLimit))) ⌝ }
+    {
+        self.minus(Self::empty().with(q))
     }
 
     // The lowest state of the set, or the limit where the set is empty.

@@ -1,22 +1,105 @@
--- `distances` meets its contract.
+-- `distances` meets its contract: before each round the square is that of r rounds, and a round with a fresh pair is one of the first n * n.
+use mathlib.Core.Path.{_≡_, refl}
+use Prim.Native.Nat.{ℕ, suc, _+_, _*_, _-_, _≤_, _<_}
+use native.Mathlib.Nat.{mul-le-mul}
+use native.Mathlib.Numerals.{add-one}
 use native.Mathlib.Omega.{arith}
+use lib.ListN.{length}
 use borrow.Author.Needs.{needs}
+use borrow.Author.Tests.{not-true, not-false}
+use Rattle.theory.specs.Monitor.{stateLimit}
+use Rattle.state_set.specs.Member.{member}
+use Rattle.monitor.specs.Format.{automatonOf}
 use Rattle.monitor.proofs.Rows.{next-of-rows}
-use Rattle.pairs.proofs.Entries.{at-once-passing, entered-fresh}
-use Rattle.pairs.proofs.Rounds.{squared-same}
+use Rattle.pairs.specs.Square.{squareSize, apartAtOnce}
+use Rattle.pairs.specs.Layers.{Empty, Ground, Layer}
+use Rattle.pairs.proofs.Visit.{empty-none, empty-some}
+use Rattle.pairs.proofs.Gather.{empty-sets}
+use Rattle.pairs.proofs.Layers.{layer-early, layer-last}
+use Rattle.pairs.proofs.First.{begun-none, begun-passing, begun-self, begun-layer}
+use Rattle.pairs.proofs.Path.{squared-same}
 use Rattle.pairs.proofs.distances.Statement.{statement}
 use Rattle.pairs.proofs.distances.Tie as tie
 
-refine-requires : tie.Need-refine-requires
-refine-requires c κs =
-    let pre = c .before .before .before .before .before .before .pre in
-    (pre .0, entered-fresh (omega (arith, pre .0 .states-most, pre .1)) (pre .1) (c .before .enter-outputs .ensures))
+abbrev Inv-loop : tie.InvT-loop
+Inv-loop nexts n k outputs square₀ alike₀ fresh₀ next₀ sets rows₀ r₀ square alike fresh next rows r =
+    (r ≤ n * n + 2) × Ground (automatonOf n k nexts) (apartAtOnce square₀) sets
+    × Layer (automatonOf n k nexts) (apartAtOnce square₀) r square alike fresh (member rows)
+    × Empty n next
 
-returns : tie.Need-returns
+abbrev μ-loop : tie.MeasureT-loop
+μ-loop nexts n k outputs square₀ alike₀ fresh₀ next₀ sets rows₀ r₀ square alike fresh next rows r = n * n + 4 - r
+
+begin-requires : tie.Need-begin-requires Inv-loop μ-loop
+begin-requires c κs =
+    let s = c .before .before .before .before .before .before in
+    let l : length (s .args .outputs .now) ≤ stateLimit = omega (arith, s .pre .0 .states-most, s .pre .1) in
+    (l, begun-none l)
+
+loop-holds : tie.Need-loop-holds Inv-loop μ-loop
+loop-holds c =
+    let p = c .before .before .before .before .before .before .before .pre in
+    let b = c .begin .ensures in (
+      search needs,
+      record { small = p .0 .states-most; closed = next-of-rows (p .0); self = begun-self (p .1) b; preceding = c .before .before .before .before .predecessors .ensures },
+      begun-layer (p .1) b,
+      empty-sets (p .0 .states-most),
+    )
+
+few : (n : ℕ) {r : ℕ} → n ≤ stateLimit → r ≤ n * n + 2 → r < 4099
+few n m l = (let s : n * n ≤ squareSize = mul-le-mul m m in omega (arith, s, l))
+
+spread-requires : tie.Need-spread-requires Inv-loop μ-loop
+spread-requires c κs =
+    let rows = c .before .before .before .before .before .before .before .before .before .before .before .before .before .before .before .pre .0 in
+    let l = few _ (rows .states-most) (c .before .before .before .before .before .before .before .loop .inv .0) in
+    (rows .symbols-most, omega (arith, l))
+
+add-spread : tie.Need-add-spread Inv-loop μ-loop
+add-spread c =
+    let rows = c .before .before .before .before .before .before .before .before .before .before .before .before .before .before .before .before .before .before .before .before .before .pre .0 in
+    let l = few _ (rows .states-most) (c .before .before .before .before .before .before .before .before .before .before .before .before .before .loop .inv .0) in
+    omega (arith, l)
+
+spread-requires-2 : tie.Need-spread-requires-2 Inv-loop μ-loop
+spread-requires-2 c κs =
+    let rows = c .before .before .before .before .before .before .before .before .before .before .before .before .before .before .before .before .before .before .before .before .before .pre .0 in
+    let l = few _ (rows .states-most) (c .before .before .before .before .before .before .before .before .before .before .before .before .before .loop .inv .0) in
+    (rows .symbols-most, omega (arith, l))
+
+add-r : tie.Need-add-r Inv-loop μ-loop
+add-r c =
+    let rows = c .before .before .before .before .before .before .before .before .before .before .before .before .before .before .before .before .before .before .before .before .before .before .pre .0 in
+    let l = few _ (rows .states-most) (c .before .before .before .before .before .before .before .before .before .before .before .before .before .before .loop .inv .0) in
+    omega (arith, l)
+
+loop-less : tie.Need-loop-less Inv-loop μ-loop
+loop-less c = (let l = c .before .before .before .before .before .before .before .before .before .before .before .before .before .before .loop .inv .0 in omega (arith, l))
+
+loop-again : tie.Need-loop-again Inv-loop μ-loop
+loop-again c =
+    let s = c .before .before .before .before .before .before .before .before .before .before .before .before .before .before .before .before .before .before .before .before .before .before in
+    let at = c .before .before .before .before .before .before .before .before .before .before .before .before .before .before .loop in
+    let fresh = empty-some _ (c .before .before .before .before .before .before .before .before .before .before .before .before .before .is-empty .ensures) (not-true _ (c .before .before .before .before .before .before .before .before .before .before .before .before .if1 .taken)) in
+    let early = layer-early (at .inv .2) (at .inv .1 .closed) (fresh .0) (fresh .2) in
+    let g = automatonOf (s .args .n) (s .args .k) (s .args .nexts .now) in
+    let once = c .before .before .before .before .before .before .spread .ensures g _ refl (at .inv .1) (at .inv .3) (at .inv .2) in
+    let twice = c .spread2 .ensures g _ refl (at .inv .1) (once .1) (rw (add-one (at .r)) (once .0)) in
+    let two : suc (at .r + 1) ≡ at .r + 2 = omega arith in
+    (omega (arith, early), at .inv .1, rw two at (twice .0), twice .1)
+
+returns : tie.Need-returns Inv-loop μ-loop
 returns c =
-    let pre = c .before .before .before .before .before .before .before .pre in
-    squared-same (next-of-rows (pre .0)) (at-once-passing (omega (arith, pre .0 .states-most, pre .1)) (pre .1) (c .before .before .enter-outputs .ensures))
-    (c .refine .ensures .0)
+    let s = c .before .before .before .before .before .before .before .before .before .before in
+    let at = c .before .before .loop in
+    let small = s .pre .0 .states-most in
+    let none = empty-none _ (c .before .is-empty .ensures) (not-false _ (c .if1 .left)) in
+    let l = few _ small (at .inv .0) in
+    squared-same (next-of-rows (s .pre .0)) (begun-passing (s .pre .1) (c .before .before .before .begin .ensures))
+    (layer-last (at .inv .2) (next-of-rows (s .pre .0)) (λ p lp. none p (omega (arith, lp, small))) (omega (arith, l)))
 
 pub distances-spec : {M : Type 1} → statement M
-distances-spec = tie.close (tie.spec (λ c κs. search needs) (λ c κs. search needs) refine-requires returns)
+distances-spec =
+    tie.close (tie.spec
+    Inv-loop μ-loop (λ c κs. search needs) begin-requires loop-holds (λ c κs. search needs) spread-requires add-spread
+    spread-requires-2 add-r loop-less loop-again returns)

@@ -1,0 +1,295 @@
+-- Sets gathered state by state: by a test, of predecessors, and what leads into a set; entries of a row made one by one.
+use mathlib.Core.Path.{_≡_, refl, sym, ap, _∙_}
+use mathlib.Core.Bool.{Bool, true, false, cond, not, _&&_, _||_}
+use mathlib.Core.List.{List}
+use mathlib.Core.Logic.{⊎-elim}
+use Prim.Native.Nat.{ℕ, _+_, _*_, _≤_, _<_, zero-le}
+use native.Mathlib.Nat.{le-refl}
+use native.Mathlib.Omega.{arith}
+use lib.Dec.{eqb, ltb}
+use lib.ListN.{length, getD, set, replicate, length-set, length-replicate, getD-replicate}
+use lib.Seq.{getD-set-same, getD-set-other}
+use borrow.Author.Tests.{eq-eqb, ne-eqb, eqb-true, eqb-false, lt-ltb, le-ltb}
+use Rattle.theory.specs.Below.{first}
+use Rattle.theory.specs.Automaton.{Automaton, Closed}
+use Rattle.theory.specs.Monitor.{stateLimit, symbolLimit}
+use Rattle.theory.proofs.Below.{lt-or-le}
+use Rattle.theory.proofs.Bits.{bit-empty}
+use Rattle.state_set.specs.Member.{inWord}
+use Rattle.pairs.specs.Square.{squareSize, place, entry}
+use Rattle.pairs.specs.Layers.{setAt, Put, Empty, Preceding, upTo, Into, Entered}
+use Rattle.pairs.proofs.Visit.{lowest-in, lowest-none}
+
+-- ---- by a test
+
+-- the states below q that pass the test
+pub record Gathered (test : ℕ → Bool) (q : ℕ) (f : ℕ → Bool) : Type 0 where
+  pub at : (x : ℕ) → f x ≡ (ltb x q && test x)
+
+module _ {test f : ℕ → Bool} where
+  pub gathered-none : ((x : ℕ) → f x ≡ false) → Gathered test 0 f
+  gathered-none none = record { at = λ x. none x ∙ rw (le-ltb x 0 zero-le) }
+
+  module _ {q : ℕ} (G : Gathered test q f) where
+    pub gathered-yes : {h : ℕ → Bool} → q < stateLimit → test q ≡ true → ((x : ℕ) → h x ≡ (f x || (eqb x q && ltb q stateLimit))) → Gathered test (q + 1) h
+    gathered-yes {h} l t is = record {
+      at = λ x.
+          is x ∙ rw (G .at x, lt-ltb q stateLimit l)
+          (⊎-elim
+          (λ (b : x < q). rw (lt-ltb x q b, lt-ltb x (q + 1) (omega arith), ne-eqb x q (λ e. omega arith)) (or-no (test x)))
+          (λ b. ⊎-elim
+          (λ (c : q < x). rw (le-ltb x q b, le-ltb x (q + 1) (omega arith), ne-eqb x q (λ e. omega arith)))
+          (λ c. (let e : x ≡ q = omega arith in rw e (rw (le-ltb q q (le-refl q), lt-ltb q (q + 1) (omega arith), eq-eqb q q refl, t))))
+          (lt-or-le q x))
+          (lt-or-le x q));
+    }
+      where
+        or-no : (b : Bool) → (b || false) ≡ b
+        or-no true = refl
+        or-no false = refl
+
+    pub gathered-no : {h : ℕ → Bool} → test q ≡ false → ((x : ℕ) → h x ≡ f x) → Gathered test (q + 1) h
+    gathered-no {h} t is = record {
+      at = λ x.
+          is x ∙ G .at x
+          ∙ ⊎-elim
+          (λ (b : x < q). rw (lt-ltb x q b, lt-ltb x (q + 1) (omega arith)))
+          (λ b. ⊎-elim
+          (λ (c : q < x). rw (le-ltb x q b, le-ltb x (q + 1) (omega arith)))
+          (λ c. (let e : x ≡ q = omega arith in rw e (rw (le-ltb q q (le-refl q), lt-ltb q (q + 1) (omega arith), t))))
+          (lt-or-le q x))
+          (lt-or-le x q);
+    }
+
+-- all states below n
+pub gathered-below : {n q : ℕ} {f : ℕ → Bool} → Gathered (λ x. true) q f → q ≤ n → n ≤ q → (x : ℕ) → f x ≡ ltb x n
+gathered-below {n} {q} G l m x = (let e : q ≡ n = omega arith in G .at x ∙ rw e (and-yes (ltb x n)))
+  where
+    and-yes : (b : Bool) → (b && true) ≡ b
+    and-yes true = refl
+    and-yes false = refl
+
+pub gathered-whole : {test f : ℕ → Bool} {n q : ℕ} → Gathered test q f → q ≤ n → n ≤ q → (x : ℕ) → f x ≡ (ltb x n && test x)
+gathered-whole {n = n} {q = q} G l m x = (let e : q ≡ n = omega arith in G .at x ∙ rw e)
+
+-- ---- arrays of sets
+
+word-none : (q : ℕ) → inWord 0 q ≡ false
+unfolding inWord
+word-none q = bit-empty q
+
+pub empty-at : (size i q : ℕ) → i < size → setAt (replicate size 0) i q ≡ false
+empty-at size i q l = ap (λ (word : ℕ). inWord word q) (getD-replicate {A = ℕ} size i 0 0 l) ∙ word-none q
+
+pub empty-sets : {n : ℕ} → n ≤ stateLimit → Empty n (replicate stateLimit 0)
+empty-sets small = record { size = length-replicate {A = ℕ} stateLimit 0; none = λ p q l. empty-at stateLimit p q (omega (arith, l, small)) }
+
+-- a word stored at place i
+pub stored-set : (sets : List ℕ) (i word : ℕ) {f : ℕ → Bool} → ((q : ℕ) → inWord word q ≡ f q) → i < length sets → Put sets i f (set sets i word)
+stored-set sets i word is l = record {
+  size = length-set sets i word;
+  here = λ q. ap (λ (x : ℕ). inWord x q) (getD-set-same sets i word 0 l) ∙ is q;
+  elsewhere = λ j q ne. ap (λ (x : ℕ). inWord x q) (getD-set-other sets i j word 0 ne);
+}
+
+-- ---- predecessors
+
+module _ {g : Automaton} where
+  pub preceding-none : g .symbols ≤ symbolLimit → Preceding g (upTo 0 0) (replicate (stateLimit * symbolLimit) 0)
+  preceding-none few = record {
+    size = length-replicate {A = ℕ} (stateLimit * symbolLimit) 0;
+    at = λ x a p lx la. empty-at (stateLimit * symbolLimit) (x * symbolLimit + a) p (omega (arith, lx, la, few))
+        ∙ rw (le-ltb p 0 zero-le, le-ltb a 0 zero-le) (nothing (eqb p 0) (eqb (g .next p a) x));
+  }
+    where
+      nothing : (b c : Bool) → false ≡ ((b && false) && c)
+      nothing true c = refl
+      nothing false c = refl
+
+  -- all symbols of p are entered
+  pub preceding-row : (p : ℕ) {sets : List ℕ} → Preceding g (upTo p (g .symbols)) sets → Preceding g (upTo (p + 1) 0) sets
+  preceding-row p P = record { size = P .size; at = λ x a q lx la. P .at x a q lx la ∙ ap (λ (b : Bool). b && eqb (g .next q a) x) (same a q la) }
+    where
+      and-no : (b : Bool) → (b && false) ≡ false
+      and-no true = refl
+      and-no false = refl
+
+      same : (a q : ℕ) → a < g .symbols → upTo p (g .symbols) q a ≡ upTo (p + 1) 0 q a
+      same a q la =
+          rw (lt-ltb a (g .symbols) la, le-ltb a 0 zero-le, and-no (eqb q (p + 1)))
+          (⊎-elim
+          (λ (b : q < p). rw (lt-ltb q p b, lt-ltb q (p + 1) (omega arith)))
+          (λ b. ⊎-elim
+          (λ (c : p < q). rw (le-ltb q p b, le-ltb q (p + 1) (omega arith), ne-eqb q p (λ e. omega arith)))
+          (λ c. (let e : q ≡ p = omega arith in rw e (rw (le-ltb p p (le-refl p), lt-ltb p (p + 1) (omega arith), eq-eqb p p refl))))
+          (lt-or-le p q))
+          (lt-or-le q p))
+
+  pub preceding-all : (n : ℕ) {sets : List ℕ} → Preceding g (upTo n 0) sets → Preceding g (λ p a. ltb p n) sets
+  preceding-all n P = record { size = P .size; at = λ x a q lx la. P .at x a q lx la ∙ rw (le-ltb a 0 zero-le, go (ltb q n) (eqb q n)) }
+    where
+      go : (b c : Bool) → (b || (c && false)) ≡ b
+      go true c = refl
+      go false true = refl
+      go false false = refl
+
+  -- p is entered among the predecessors of x under a
+  pub preceding-more : {p a x : ℕ} {sets after : List ℕ} → g .symbols ≤ symbolLimit → x < stateLimit → a < g .symbols → p < stateLimit → x ≡ g .next p a
+      → Preceding g (upTo p a) sets
+      → Put sets (x * symbolLimit + a) (λ q. setAt sets (x * symbolLimit + a) q || (eqb q p && ltb p stateLimit)) after
+      → Preceding g (upTo p (a + 1)) after
+  preceding-more {p} {a} {x} {sets} {after} few lx la lp ex P S = record { size = S .size ∙ P .size; at = at }
+    where
+      -- at another place nothing changes
+      other : (y b q : ℕ) → b < g .symbols → ((q ≡ p) → (b ≡ a) → g .next q b ≡ y → ⊥)
+          → (upTo p a q b && eqb (g .next q b) y) ≡ (upTo p (a + 1) q b && eqb (g .next q b) y)
+      other y b q lb ne = by-row (eqb q p) refl
+        where
+          by-end : q ≡ p → (c : Bool) → eqb (g .next q b) y ≡ c → b ≡ a → (upTo p a q b && eqb (g .next q b) y) ≡ (upTo p (a + 1) q b && eqb (g .next q b) y)
+          by-end eq true h eb = absurd (ne eq eb (eqb-true (g .next q b) y h))
+          by-end eq false h eb = rw h (nothing (upTo p a q b) (upTo p (a + 1) q b))
+            where
+              nothing : (c d : Bool) → (c && false) ≡ (d && false)
+              nothing true true = refl
+              nothing true false = refl
+              nothing false true = refl
+              nothing false false = refl
+
+          by-row : (c : Bool) → eqb q p ≡ c → (upTo p a q b && eqb (g .next q b) y) ≡ (upTo p (a + 1) q b && eqb (g .next q b) y)
+          by-row false h = rw h
+          by-row true h =
+              ⊎-elim
+              (λ (l : b < a). rw (lt-ltb b a l, lt-ltb b (a + 1) (omega arith)))
+              (λ l. ⊎-elim
+              (λ (m : a < b). rw (le-ltb b a l, le-ltb b (a + 1) (omega arith)))
+              (λ m. by-end (eqb-true q p h) (eqb (g .next q b) y) refl (omega arith))
+              (lt-or-le a b))
+              (lt-or-le b a)
+
+      at : (y b q : ℕ) → y < stateLimit → b < g .symbols → setAt after (y * symbolLimit + b) q ≡ (upTo p (a + 1) q b && eqb (g .next q b) y)
+      at y b q ly lb = by-place (eqb (y * symbolLimit + b) (x * symbolLimit + a)) refl
+        where
+          here : y ≡ x → b ≡ a → setAt after (y * symbolLimit + b) q ≡ (upTo p (a + 1) q b && eqb (g .next q b) y)
+          here ey eb = rw (ey, eb) (S .here q ∙ rw (P .at x a q lx la, lt-ltb p stateLimit lp) (by-state (eqb q p) refl))
+            where
+              same : (c d : Bool) → (((c || (false && d)) && eqb (g .next q a) x) || (false && true)) ≡ ((c || (false && ltb a (a + 1))) && eqb (g .next q a) x)
+              same true d = go (eqb (g .next q a) x)
+                where
+                  go : (c : Bool) → (c || false) ≡ c
+                  go true = refl
+                  go false = refl
+              same false d = refl
+
+              by-state : (c : Bool) → eqb q p ≡ c
+                  → ((upTo p a q a && eqb (g .next q a) x) || (eqb q p && true)) ≡ (upTo p (a + 1) q a && eqb (g .next q a) x)
+              by-state false h = rw h (same (ltb q p) (ltb a a))
+              by-state true h =
+                  let e = eqb-true q p h in
+                  rw (h, lt-ltb a (a + 1) (omega arith), eq-eqb (g .next q a) x (rw e (sym ex)))
+                  (go (ltb q p) (ltb a a))
+                where
+                  go : (c d : Bool) → (((c || (true && d)) && true) || (true && true)) ≡ ((c || (true && true)) && true)
+                  go true d = refl
+                  go false true = refl
+                  go false false = refl
+
+          by-place : (c : Bool) → eqb (y * symbolLimit + b) (x * symbolLimit + a) ≡ c
+              → setAt after (y * symbolLimit + b) q ≡ (upTo p (a + 1) q b && eqb (g .next q b) y)
+          by-place true h =
+              let e = eqb-true (y * symbolLimit + b) (x * symbolLimit + a) h in
+              here (omega (arith, e, la, lb, few)) (omega (arith, e, la, lb, few))
+          by-place false h =
+              let ne = eqb-false (y * symbolLimit + b) (x * symbolLimit + a) h in
+              S .elsewhere (y * symbolLimit + b) q ne ∙ P .at y b q ly lb
+              ∙ other y b q lb (λ eq eb en. (let z : y ≡ x = sym en ∙ rw (eq, eb) (sym ex) in ne (rw (z, eb))))
+
+-- ---- what leads into a set
+
+-- what was gathered, and what leads into the states that are left, make what leads into the whole
+pub record Gathering (g : Automaton) (a : ℕ) (whole into left : ℕ → Bool) : Type 0 where
+  pub at : (q : ℕ) → (into q || (ltb q (g .states) && left (g .next q a))) ≡ (ltb q (g .states) && whole (g .next q a))
+
+module _ {g : Automaton} {a : ℕ} {sets : List ℕ} (P : Preceding g (λ p b. ltb p (g .states)) sets) (la : a < g .symbols) where
+  pub gathering-none : {whole into : ℕ → Bool} → ((q : ℕ) → into q ≡ false) → Gathering g a whole into whole
+  gathering-none none = record { at = λ q. rw (none q) }
+
+  pub gathering-more : {whole into left : ℕ → Bool} → Gathering g a whole into left → {y : ℕ} → y ≡ first left 0 stateLimit → y < stateLimit
+      → {more into′ left′ : ℕ → Bool} → ((q : ℕ) → more q ≡ setAt sets (y * symbolLimit + a) q) → ((q : ℕ) → into′ q ≡ (into q || more q))
+      → ((q : ℕ) → left′ q ≡ (left q && not (eqb q y && ltb y stateLimit))) → Gathering g a whole into′ left′
+  gathering-more {whole} {into} {left} G {y} ey ly im ii il = record {
+    at = λ q.
+        rw (ii q, im q, P .at y a q ly la, il (g .next q a), lt-ltb y stateLimit ly)
+        (step (into q) (ltb q (g .states)) (eqb (g .next q a) y) (left (g .next q a))
+        (λ h. (let e = eqb-true (g .next q a) y h in rw e (lowest-in left ey ly))))
+        ∙ G .at q;
+  }
+    where
+      step : (i l e f : Bool) → (e ≡ true → f ≡ true) → ((i || (l && e)) || (l && (f && not (e && true)))) ≡ (i || (l && f))
+      step true l e f h = refl
+      step false false e f h = refl
+      step false true true true h = refl
+      step false true true false h = sym (h refl)
+      step false true false true h = refl
+      step false true false false h = refl
+
+  pub gathering-all : {whole into left : ℕ → Bool} → Gathering g a whole into left → Closed g → g .states ≤ stateLimit → {y : ℕ}
+      → y ≡ first left 0 stateLimit → stateLimit ≤ y → Into g a whole into
+  gathering-all {whole} {into} {left} G c small ey l = record { at = λ q. sym (or-no (into q)) ∙ ap (λ (b : Bool). into q || b) (sym (none q)) ∙ G .at q }
+    where
+      or-no : (b : Bool) → (b || false) ≡ b
+      or-no true = refl
+      or-no false = refl
+
+      none : (q : ℕ) → (ltb q (g .states) && left (g .next q a)) ≡ false
+      none q =
+          ⊎-elim
+          (λ (lq : q < g .states).
+          rw (lt-ltb q (g .states) lq) (lowest-none left ey l (g .next q a) (let m = c .next-in q a lq la in omega (arith, m, small))))
+          (λ out. rw (le-ltb q (g .states) out))
+          (lt-or-le q (g .states))
+
+-- ---- the entries of a row
+
+-- what is entered for the states that are left makes what is to be entered
+pub record Entering (before : List ℕ) (p : ℕ) (whole : ℕ → Bool) (d : ℕ) (after : List ℕ) (left : ℕ → Bool) : Type 0 where
+  pub size : length after ≡ length before
+  pub here : (q : ℕ) → q < stateLimit → cond (left q) d (entry after p q) ≡ cond (whole q) d (entry before p q)
+  pub elsewhere : (x q : ℕ) → x < stateLimit → q < stateLimit → (x ≡ p → ⊥) → entry after x q ≡ entry before x q
+
+pub entering-none : {before : List ℕ} {p : ℕ} {whole : ℕ → Bool} {d : ℕ} → Entering before p whole d before whole
+entering-none = record { size = refl; here = λ q l. refl; elsewhere = λ x q lx lq ne. refl }
+
+module _ {before : List ℕ} {p : ℕ} {whole : ℕ → Bool} {d : ℕ} {after : List ℕ} {left : ℕ → Bool} (E : Entering before p whole d after left)
+    {y : ℕ} (ey : y ≡ first left 0 stateLimit) where
+  pub entering-more : {left′ : ℕ → Bool} → length before ≡ squareSize → p < stateLimit → y < stateLimit
+      → ((q : ℕ) → left′ q ≡ (left q && not (eqb q y && ltb y stateLimit))) → Entering before p whole d (set after (place p y) d) left′
+  entering-more {left′} size lp ly is = record {
+    size = length-set after (place p y) d ∙ E .size;
+    here = λ q lq. by q lq (eqb q y) refl;
+    elsewhere = λ x q lx lq ne. getD-set-other after (place p y) (place x q) d 0 (λ e. ne (omega (arith, e, lq, ly))) ∙ E .elsewhere x q lx lq ne;
+  }
+    where
+      inside : place p y < length after
+      inside = (let m = E .size in omega (arith, m, size, lp, ly))
+
+      by : (q : ℕ) → q < stateLimit → (b : Bool) → eqb q y ≡ b
+          → cond (left′ q) d (entry (set after (place p y) d) p q) ≡ cond (whole q) d (entry before p q)
+      by q lq true h =
+          let e = eqb-true q y h in
+          let was : cond (left y) d (entry after p y) ≡ cond (whole y) d (entry before p y) = E .here y ly in
+          rw e (rw (is y, lowest-in left ey ly, eq-eqb y y refl, lt-ltb y stateLimit ly) (getD-set-same after (place p y) d 0 inside)
+          ∙ rw (lowest-in left ey ly) at was)
+      by q lq false h =
+          let ne = eqb-false q y h in
+          rw (is q, h, getD-set-other after (place p y) (place p q) d 0 (λ e. ne (omega (arith, e)))) (keep (left q) refl)
+        where
+          keep : (b : Bool) → left q ≡ b → cond (b && true) d (entry after p q) ≡ cond (whole q) d (entry before p q)
+          keep true e = rw e at (E .here q lq)
+          keep false e = rw e at (E .here q lq)
+
+  pub entering-all : stateLimit ≤ y → Entered before p whole d after
+  entering-all l = record {
+    size = E .size;
+    here = λ q lq. sym (rw (lowest-none left ey l q lq)) ∙ E .here q lq;
+    elsewhere = E .elsewhere;
+  }

@@ -1,0 +1,482 @@
+-- From the pairs at distance r to those at r + 1, and what holds when none is left.
+use mathlib.Core.Path.{_≡_, refl, sym, ap, _∙_, subst}
+use mathlib.Core.Bool.{Bool, true, false, cond, not, _&&_, _||_}
+use mathlib.Core.List.{List}
+use mathlib.Core.Logic.{_⊎_, inl, inr, ⊎-elim}
+use Prim.Native.Nat.{ℕ, zero, suc, _+_, _*_, _≤_, _<_}
+use native.Mathlib.Nat.{le-refl}
+use native.Mathlib.Omega.{arith}
+use lib.Dec.{eqb, leb, ltb}
+use lib.ListN.{length}
+use borrow.Author.Tests.{eq-eqb, ne-eqb, eqb-true, eqb-false, le-leb, lt-leb, leb-true, lt-ltb, le-ltb, ltb-true, not-true}
+use Rattle.theory.specs.Below.{any}
+use Rattle.theory.specs.Automaton.{Automaton, Closed}
+use Rattle.theory.specs.Monitor.{stateLimit}
+use Rattle.theory.specs.Pairs.{Tells, told}
+use Rattle.theory.specs.Extent.{Shortest}
+use Rattle.theory.proofs.Below.{clash, not-clash, is-true, both-ways, lt-or-le, or-cases, or-left, or-right, and-left, and-right, and-both, any-at, any-find}
+use Rattle.theory.proofs.Pairs.{onward, told-sound, told-complete, told-more, told-up, still-ever, told-settled, tells-same}
+use Rattle.pairs.specs.Square.{never, squareSize, entry, Noted, Squared}
+use Rattle.pairs.specs.Layers.{setAt, Put, Empty, Preceding, Into, Entered, Ground, Kept, Stage, Layer, Front, Midway, GoesAt, rowDone}
+
+-- ---- pairs told apart within a number of symbols
+
+module _ (g : Automaton) (ends : ℕ → ℕ → Bool) where
+  told-step : (r p q : ℕ) → told g ends (suc r) p q ≡ (told g ends r p q || any (g .symbols) (onward g ends r p q))
+  unfolding told
+  told-step r p q = refl
+
+  told-by : (r p q a : ℕ) → a < g .symbols → told g ends r (g .next p a) (g .next q a) ≡ true → told g ends (suc r) p q ≡ true
+  told-by r p q a la t = told-step r p q ∙ or-right (told g ends r p q) (any (g .symbols) (onward g ends r p q)) (any-at (g .symbols) (onward g ends r p q) a la t)
+
+  -- no state is told apart from itself
+  told-self : Closed g → ((p : ℕ) → p < g .states → ends p p ≡ false) → (r p : ℕ) → p < g .states → told g ends r p p ≡ false
+  unfolding told
+  told-self c self zero p lp = self p lp
+  told-self c self (suc r) p lp =
+      not-clash (λ t. ⊎-elim
+      (λ h. clash h (told-self c self r p lp))
+      (λ h. (let b = any-find (g .symbols) (onward g ends r p p) h in clash (b .2) (told-self c self r (g .next p (b .0)) (c .next-in p (b .0) lp (b .1)))))
+      (or-cases (told g ends r p p) (any (g .symbols) (onward g ends r p p)) t))
+
+-- ---- sets in arrays
+
+and-yes : (b : Bool) → (b && true) ≡ b
+and-yes true = refl
+and-yes false = refl
+
+or-no : (b : Bool) → (b || false) ≡ b
+or-no true = refl
+or-no false = refl
+
+put-same : {before after : List ℕ} {p : ℕ} {f : ℕ → Bool} → Put before p f after → (x q : ℕ) → (x ≡ p → f q ≡ setAt before p q)
+    → setAt after x q ≡ setAt before x q
+put-same {before} {after} {p} {f} P x q same = go (eqb x p) refl
+  where
+    go : (b : Bool) → eqb x p ≡ b → setAt after x q ≡ setAt before x q
+    go true h = (let e = eqb-true x p h in rw e (P .here q ∙ same e))
+    go false h = P .elsewhere x q (eqb-false x p h)
+
+-- ---- one row with one symbol
+
+module _ {g : Automaton} {ends : ℕ → ℕ → Bool} {predecessors : List ℕ} (G : Ground g ends predecessors) {r : ℕ} (fits : r + 1 < never)
+    {p a : ℕ} (lp : p < g .states) (la : a < g .symbols) {front : ℕ → Bool} (F : Front g ends r (g .next p a) front)
+    {done : ℕ → ℕ → Bool} {square alike next : List ℕ} {rows : ℕ → Bool} (M : Midway g ends r done square alike next rows) where
+  abbrev n : ℕ
+  n = g .states
+
+  -- symbol a leads from p and q to a pair told apart within r
+  abbrev reached : ℕ → Type 0
+  reached q = told g ends r (g .next p a) (g .next q a) ≡ true
+
+  -- what is not told apart from p, and is another state, is among the alike
+  is-alike : (q : ℕ) → q < n → reached q → entry square p q ≡ never → setAt alike p q ≡ true
+  is-alike q lq t e =
+      let other : (q ≡ p) → ⊥ = λ h. clash (subst (λ (z : ℕ). told g ends r (g .next p a) (g .next z a) ≡ true) h t)
+      (told-self g ends (G .closed) (G .self) r (g .next p a) (G .closed .next-in p a lp la)) in
+      M .kept .alike-is p q lp ∙ rw (lt-ltb q n lq, ne-eqb q p other, eq-eqb (entry square p q) never e)
+
+  alike-says : (q : ℕ) → setAt alike p q ≡ true → (q < n) × (entry square p q ≡ never)
+  alike-says q t =
+      let x = sym (M .kept .alike-is p q lp) ∙ t in
+      let y = and-left (ltb q n && not (eqb q p)) (eqb (entry square p q) never) x in
+      (ltb-true q n (and-left (ltb q n) (not (eqb q p)) y), eqb-true (entry square p q) never (and-right (ltb q n && not (eqb q p)) (eqb (entry square p q) never) x))
+
+  module _ (square′ : List ℕ) where
+    -- what is done is done, and p with a as well
+    done-also : ((x q : ℕ) → x < n → q < n → entry square x q ≤ suc r → entry square′ x q ≤ suc r)
+        → ((q : ℕ) → q < n → reached q → entry square′ p q ≤ suc r)
+        → (x q b : ℕ) → x < n → q < n → b < g .symbols → (done x b || rowDone p a x b) ≡ true
+        → told g ends r (g .next x b) (g .next q b) ≡ true → entry square′ x q ≤ suc r
+    done-also keeps here x q b lx lq lb d t =
+        ⊎-elim
+        (λ o. keeps x q lx lq (M .covered x q b lx lq lb o t))
+        (λ i.
+        let ex = eqb-true x p (and-left (eqb x p) (eqb b a) i) in
+        let eb = eqb-true b a (and-right (eqb x p) (eqb b a) i) in
+        rw ex (here q lq (rw (← ex, ← eb) t)))
+        (or-cases (done x b) (rowDone p a x b) d)
+
+  -- nothing is added: no state alike to p is reached
+  pub spread-nothing : ((q : ℕ) → q < n → setAt alike p q ≡ true → reached q → ⊥)
+      → Midway g ends r (λ q b. done q b || rowDone p a q b) square alike next rows
+  spread-nothing nothing = record {
+    kept = M .kept;
+    old = M .old;
+    known = M .known;
+    new = M .new;
+    covered = done-also square (λ x q _ _ l. l)
+        (λ q lq t. ⊎-elim (λ l. l) (λ e. absurd (nothing q lq (is-alike q lq t e) t)) (M .known p q lp lq));
+  }
+
+  module _ {into new : ℕ → Bool} (I : Into g a front into) (N : (q : ℕ) → new q ≡ (setAt alike p q && into q)) where
+    into-reached : (q : ℕ) → q < n → into q ≡ true → reached q
+    into-reached q lq t = F .sound (g .next q a) (and-right (ltb q n) (front (g .next q a)) (sym (I .at q) ∙ t)) .1
+
+    reached-into : (q : ℕ) → q < n → reached q → (into q ≡ true) ⊎ (told g ends r p q ≡ true)
+    reached-into q lq t =
+        ⊎-elim
+        (λ f. inl (I .at q ∙ and-both (ltb q n) (front (g .next q a)) (lt-ltb q n lq) f))
+        (λ s. inr (let e = s .1 in rw e (told-by g ends (s .0) p q a la (s .2))))
+        (F .all (g .next q a) (G .closed .next-in q a lq la) t)
+
+    -- a reached state alike to p is new
+    reached-new : (q : ℕ) → q < n → setAt alike p q ≡ true → reached q → new q ≡ true
+    reached-new q lq h t =
+        ⊎-elim
+        (λ i. N q ∙ and-both (setAt alike p q) (into q) h i)
+        (λ o. absurd (let e = alike-says q h .1 in clash o (M .old p q r lp lq (le-refl r) ∙ lt-leb (entry square p q) r (omega (arith, e, fits)))))
+        (reached-into q lq t)
+
+    pub spread-none : ((q : ℕ) → q < stateLimit → new q ≡ false) → Midway g ends r (λ q b. done q b || rowDone p a q b) square alike next rows
+    spread-none none = spread-nothing (λ q lq h t. clash (reached-new q lq h t) (none q (let m = G .small in omega (arith, lq, m))))
+
+    new-says : (q : ℕ) → new q ≡ true → (q < n) × (entry square p q ≡ never) × (told g ends (suc r) p q ≡ true)
+    new-says q t =
+        let x = sym (N q) ∙ t in
+        let h = alike-says q (and-left (setAt alike p q) (into q) x) in
+        (h .0, h .1, told-by g ends r p q a la (into-reached q (h .0) (and-right (setAt alike p q) (into q) x)))
+
+    module _ {square′ alike′ next′ : List ℕ} {rows′ : ℕ → Bool} (E : Entered square p new (r + 1) square′)
+        (A : Put alike p (λ q. setAt alike p q && not (new q)) alike′) (X : Put next p (λ q. setAt next p q || new q) next′)
+        (R : (q : ℕ) → rows′ q ≡ (rows q || (eqb q p && ltb p stateLimit))) (some : (q : ℕ) × (q < stateLimit) × (new q ≡ true)) where
+      small-p : p < stateLimit
+      small-p = (let m = G .small in omega (arith, lp, m))
+
+      -- an entry is new, or as it was
+      after : (x q : ℕ) → x < n → q < n
+          → ((x ≡ p) × (new q ≡ true) × (entry square′ x q ≡ suc r)) ⊎ ((x ≡ p → new q ≡ false) × (entry square′ x q ≡ entry square x q))
+      after x q lx lq = at-row (eqb x p) refl
+        where
+          small : q < stateLimit
+          small = (let m = G .small in omega (arith, lq, m))
+
+          at-new : x ≡ p → (b : Bool) → new q ≡ b
+              → ((x ≡ p) × (new q ≡ true) × (entry square′ x q ≡ suc r)) ⊎ ((x ≡ p → new q ≡ false) × (entry square′ x q ≡ entry square x q))
+          at-new e true h = inl (e, h, rw e (E .here q small ∙ rw h (let z : r + 1 ≡ suc r = omega arith in z)))
+          at-new e false h = inr (λ _. h, rw e (E .here q small ∙ rw h))
+
+          at-row : (b : Bool) → eqb x p ≡ b
+              → ((x ≡ p) × (new q ≡ true) × (entry square′ x q ≡ suc r)) ⊎ ((x ≡ p → new q ≡ false) × (entry square′ x q ≡ entry square x q))
+          at-row true h = at-new (eqb-true x p h) (new q) refl
+          at-row false h =
+              let ne = eqb-false x p h in
+              inr (λ e. absurd (ne e), E .elsewhere x q (let m = G .small in omega (arith, lx, m)) small ne)
+
+      -- ---- the sets
+
+      new-out : (q : ℕ) → n ≤ q → new q ≡ false
+      new-out q l = not-clash (λ t. (let z = new-says q t .0 in omega (arith, z, l)))
+
+      alike-same : (x q : ℕ) → (x ≡ p → new q ≡ false) → setAt alike′ x q ≡ setAt alike x q
+      alike-same x q keeps = put-same A x q (λ e. rw (keeps e) (and-yes (setAt alike p q)))
+
+      next-same : (x q : ℕ) → (x ≡ p → new q ≡ false) → setAt next′ x q ≡ setAt next x q
+      next-same x q keeps = put-same X x q (λ e. rw (keeps e) (or-no (setAt next p q)))
+
+      alike-after : (x q : ℕ) → x < n → setAt alike′ x q ≡ ((ltb q n && not (eqb q x)) && eqb (entry square′ x q) never)
+      alike-after x q lx =
+          ⊎-elim
+          (λ lq. ⊎-elim
+          (λ h. both-ways
+          (λ t.
+          let e = h .0 in
+          let y = and-right (setAt alike p q) (not (new q)) (sym (A .here q) ∙ rw e at t) in
+          absurd (clash (h .1) (not-true (new q) y)))
+          (λ t.
+          let y = eqb-true (entry square′ x q) never (and-right (ltb q n && not (eqb q x)) (eqb (entry square′ x q) never) t) in
+          let z = h .2 in
+          absurd (omega (arith, y, z, fits))))
+          (λ h. (let z = h .1 in alike-same x q (h .0) ∙ M .kept .alike-is x q lx ∙ rw z))
+          (after x q lx lq))
+          (λ l. alike-same x q (λ _. new-out q l) ∙ M .kept .alike-is x q lx ∙ rw (le-ltb q n l))
+          (lt-or-le q n)
+
+      next-after : (x q : ℕ) → x < n → setAt next′ x q ≡ (ltb q n && eqb (entry square′ x q) (suc r))
+      next-after x q lx =
+          ⊎-elim
+          (λ lq. ⊎-elim
+          (λ h.
+          let e = h .0 in
+          let z = h .2 in
+          let yes : setAt next′ x q ≡ true = rw e (X .here q ∙ or-right (setAt next p q) (new q) (h .1)) in
+          yes ∙ sym (and-both (ltb q n) (eqb (entry square′ x q) (suc r)) (lt-ltb q n lq) (eq-eqb (entry square′ x q) (suc r) z)))
+          (λ h. (let z = h .1 in next-same x q (h .0) ∙ M .kept .fresh-is x q lx ∙ rw z))
+          (after x q lx lq))
+          (λ l. next-same x q (λ _. new-out q l) ∙ M .kept .fresh-is x q lx ∙ rw (le-ltb q n l))
+          (lt-or-le q n)
+
+      next-keeps : (x q : ℕ) → setAt next x q ≡ true → setAt next′ x q ≡ true
+      next-keeps x q t = go (eqb x p) refl
+        where
+          go : (b : Bool) → eqb x p ≡ b → setAt next′ x q ≡ true
+          go true h = (let e = eqb-true x p h in rw e (X .here q ∙ or-left (setAt next p q) (new q) (rw e at t)))
+          go false h = X .elsewhere x q (eqb-false x p h) ∙ t
+
+      kept-after : Kept n (suc r) n square′ alike′ next′ rows′
+      kept-after = record {
+        size = E .size ∙ M .kept .size;
+        alike-size = A .size ∙ M .kept .alike-size;
+        fresh-size = X .size ∙ M .kept .fresh-size;
+        alike-is = alike-after;
+        fresh-is = next-after;
+        rows-some = λ x t. ⊎-elim
+            (λ o. (let s = M .kept .rows-some x o in (s .0, (s .1 .0, next-keeps x (s .1 .0) (s .1 .1)))))
+            (λ h.
+            let e = eqb-true x p (and-left (eqb x p) (ltb p stateLimit) h) in
+            (rw e lp, (some .0, rw e (X .here (some .0) ∙ or-right (setAt next p (some .0)) (new (some .0)) (some .2)))))
+            (or-cases (rows x) (eqb x p && ltb p stateLimit) (sym (R x) ∙ t));
+        rows-all = λ x q lx t. go x q lx t (eqb x p) refl;
+      }
+        where
+          go : (x q : ℕ) → x < n → setAt next′ x q ≡ true → (b : Bool) → eqb x p ≡ b → rows′ x ≡ true
+          go x q lx t true h =
+              R x ∙ or-right (rows x) (eqb x p && ltb p stateLimit) (and-both (eqb x p) (ltb p stateLimit) h (lt-ltb p stateLimit small-p))
+          go x q lx t false h =
+              R x ∙ or-left (rows x) (eqb x p && ltb p stateLimit) (M .kept .rows-all x q lx (sym (X .elsewhere x q (eqb-false x p h)) ∙ t))
+
+      pub spread-new : Midway g ends r (λ q b. done q b || rowDone p a q b) square′ alike′ next′ rows′
+      spread-new = record {
+        kept = kept-after;
+        old = λ x q s lx lq ls. ⊎-elim
+            (λ h.
+            let e : entry square x q ≡ never = (let k = h .0 in rw k (new-says q (h .1) .1)) in
+            let z = h .2 in
+            M .old x q s lx lq ls ∙ lt-leb (entry square x q) s (omega (arith, e, ls, fits)) ∙ sym (lt-leb (entry square′ x q) s (omega (arith, z, ls))))
+            (λ h. (let z = h .1 in rw z (M .old x q s lx lq ls)))
+            (after x q lx lq);
+        known = λ x q lx lq. ⊎-elim (λ h. inl (let z = h .2 in omega (arith, z))) (λ h. (let z = h .1 in rw z (M .known x q lx lq))) (after x q lx lq);
+        new = λ x q lx lq e. ⊎-elim (λ h. rw (h .0) (new-says q (h .1) .2)) (λ h. M .new x q lx lq (sym (h .1) ∙ e)) (after x q lx lq);
+        covered = done-also square′ keeps here;
+      }
+        where
+          keeps : (x q : ℕ) → x < n → q < n → entry square x q ≤ suc r → entry square′ x q ≤ suc r
+          keeps x q lx lq l = ⊎-elim (λ h. (let z = h .2 in omega (arith, z))) (λ h. (let z = h .1 in omega (arith, z, l))) (after x q lx lq)
+
+          here : (q : ℕ) → q < n → reached q → entry square′ p q ≤ suc r
+          here q lq t =
+              ⊎-elim
+              (λ l. keeps p q lp lq l)
+              (λ e. ⊎-elim
+              (λ h. (let z = h .2 in omega (arith, z)))
+              (λ h. absurd (clash (reached-new q lq (is-alike q lq t e) t) (h .0 refl)))
+              (after p q lp lq))
+              (M .known p q lp lq)
+
+-- ---- what `spread_row` does
+
+-- a set stored at place p is any that has the same states
+put-as : {before after : List ℕ} {p : ℕ} (f h : ℕ → Bool) → Put before p f after → ((q : ℕ) → f q ≡ h q) → Put before p h after
+put-as f h P e = record { size = P .size; here = λ q. P .here q ∙ e q; elsewhere = P .elsewhere }
+
+module _ {g : Automaton} {p a r : ℕ} (fits : r + 1 < never) (lp : p < g .states) (la : a < g .symbols) {front : ℕ → Bool} {sets square alike next : List ℕ} {rows : ℕ → Bool} where
+  -- no state is alike to p
+  pub row-nothing : ((q : ℕ) → q < stateLimit → setAt alike p q ≡ false)
+      → GoesAt g r (g .next p a) front (rowDone p a) sets square alike next rows square alike next rows
+  row-nothing none = record {
+    goes = λ ends done G F M.
+        spread-nothing G fits lp la F M (λ q lq h t. clash h (none q (let m = G .small in omega (arith, lq, m))));
+  }
+
+  module _ {into new : ℕ → Bool}
+      (I : g .states ≤ stateLimit → Closed g → Preceding g (λ x b. ltb x (g .states)) sets → Into g a front into)
+      (N : (q : ℕ) → new q ≡ (setAt alike p q && into q)) where
+    pub row-none : ((q : ℕ) → q < stateLimit → new q ≡ false)
+        → GoesAt g r (g .next p a) front (rowDone p a) sets square alike next rows square alike next rows
+    row-none none = record { goes = λ ends done G F M. spread-none G fits lp la F M (I (G .small) (G .closed) (G .preceding)) N none }
+
+    pub row-new : {square′ alike′ next′ : List ℕ} {left more rows′ : ℕ → Bool} → (q : ℕ) × (q < stateLimit) × (new q ≡ true)
+        → (length square ≡ squareSize → Entered square p new (r + 1) square′)
+        → (p < length alike → Put alike p left alike′) → ((q : ℕ) → left q ≡ (setAt alike p q && not (new q)))
+        → (p < length next → Put next p more next′) → ((q : ℕ) → more q ≡ (setAt next p q || new q))
+        → ((q : ℕ) → rows′ q ≡ (rows q || (eqb q p && ltb p stateLimit)))
+        → GoesAt g r (g .next p a) front (rowDone p a) sets square alike next rows square′ alike′ next′ rows′
+    row-new some E A ea X ex R = record {
+      goes = λ ends done G F M.
+          let small = G .small in
+          let m = M .kept .alike-size in
+          let n = M .kept .fresh-size in
+          spread-new G fits lp la F M (I small (G .closed) (G .preceding)) N (E (M .kept .size))
+          (put-as _ (λ q. setAt alike p q && not (new q)) (A (omega (arith, lp, small, m))) ea)
+          (put-as _ (λ q. setAt next p q || new q) (X (omega (arith, lp, small, n))) ex) R some;
+    }
+
+-- ---- a round
+
+module _ {g : Automaton} {ends : ℕ → ℕ → Bool} {r : ℕ} {square alike fresh : List ℕ} {rows : ℕ → Bool} (L : Layer g ends r square alike fresh rows) where
+  -- what is told apart within r has an entry of at most r
+  stage-entry : (p q : ℕ) → p < g .states → q < g .states → told g ends r p q ≡ true → entry square p q ≤ r
+  stage-entry p q lp lq t = leb-true (entry square p q) r (sym (L .stage p q lp lq .agrees r (le-refl r)) ∙ t)
+
+  -- before the round no pair is at r + 1
+  pub layer-begins : {next : List ℕ} → r + 1 < never → Empty (g .states) next
+      → Midway g ends r (λ p a. false) square alike next (λ p. false)
+  layer-begins {next} fits N = record {
+    kept = record {
+      size = L .kept .size;
+      alike-size = L .kept .alike-size;
+      fresh-size = N .size;
+      alike-is = L .kept .alike-is;
+      fresh-is = λ p q lp. N .none p q lp ∙ sym (not-clash (λ t.
+          let lq = ltb-true q (g .states) (and-left (ltb q (g .states)) (eqb (entry square p q) (suc r)) t) in
+          not-yet p q lp lq (eqb-true (entry square p q) (suc r) (and-right (ltb q (g .states)) (eqb (entry square p q) (suc r)) t))));
+      rows-some = λ p t. absurd (clash t refl);
+      rows-all = λ p q lp t. absurd (clash t (N .none p q lp));
+    };
+    old = λ p q s lp lq ls. L .stage p q lp lq .agrees s ls;
+    known = λ p q lp lq. ⊎-elim (λ l. inl (omega (arith, l))) (λ e. inr e) (L .stage p q lp lq .known);
+    new = λ p q lp lq e. absurd (not-yet p q lp lq e);
+    covered = λ p q a lp lq la d t. absurd (clash d refl);
+  }
+    where
+      not-yet : (p q : ℕ) → p < g .states → q < g .states → entry square p q ≡ suc r → ⊥
+      not-yet p q lp lq e = ⊎-elim (λ l. omega (arith, l, e)) (λ h. omega (arith, h, e, fits)) (L .stage p q lp lq .known)
+
+  -- the fresh states of row x are at distance r from x
+  pub layer-front : (x : ℕ) → x < g .states → Front g ends r x (setAt fresh x)
+  layer-front x lx = record {
+    sound = λ y t.
+        let h = sym (L .kept .fresh-is x y lx) ∙ t in
+        let ly = ltb-true y (g .states) (and-left (ltb y (g .states)) (eqb (entry square x y) r) h) in
+        let e = eqb-true (entry square x y) r (and-right (ltb y (g .states)) (eqb (entry square x y) r) h) in
+        (ly, L .stage x y lx ly .agrees r (le-refl r) ∙ le-leb (entry square x y) r (omega (arith, e)));
+    all = λ y ly t. go y ly (stage-entry x y lx ly t) (eqb (entry square x y) r) refl r refl;
+  }
+    where
+      go : (y : ℕ) → y < g .states → entry square x y ≤ r → (b : Bool) → eqb (entry square x y) r ≡ b → (z : ℕ) → r ≡ z
+          → (setAt fresh x y ≡ true) ⊎ ((s : ℕ) × (r ≡ suc s) × (told g ends s x y ≡ true))
+      go y ly l true h z ez = inl (L .kept .fresh-is x y lx ∙ and-both (ltb y (g .states)) (eqb (entry square x y) r) (lt-ltb y (g .states) ly) h)
+      go y ly l false h zero ez = absurd (eqb-false (entry square x y) r h (omega (arith, l, ez)))
+      go y ly l false h (suc s) ez =
+          let ne = eqb-false (entry square x y) r h in
+          let below : entry square x y ≤ s = ⊎-elim (λ k. omega (arith, k)) (λ k. absurd (ne (omega (arith, k, l, ez)))) (lt-or-le (entry square x y) (suc s)) in
+          inr (s, ez, L .stage x y lx ly .agrees s (omega (arith, ez)) ∙ le-leb (entry square x y) s below)
+
+  -- the round is over when each row with each symbol that leads to a row with a fresh pair is done
+  pub layer-next : {done : ℕ → ℕ → Bool} {square′ alike′ next : List ℕ} {rows′ : ℕ → Bool} → Closed g → Midway g ends r done square′ alike′ next rows′
+      → ((p a : ℕ) → p < g .states → a < g .symbols → rows (g .next p a) ≡ true → done p a ≡ true)
+      → Layer g ends (suc r) square′ alike′ next rows′
+  layer-next {done} {square′} {alike′} {next} {rows′} c M all = record {
+    kept = M .kept;
+    stage = λ p q lp lq. record {
+      agrees = λ s l. ⊎-elim
+          (λ (h : s < suc r). M .old p q s lp lq (omega (arith, h)))
+          (λ h. (let z : suc r ≡ s = omega (arith, h, l) in subst (λ (x : ℕ). told g ends x p q ≡ leb (entry square′ p q) x) z (now p q lp lq)))
+          (lt-or-le s (suc r));
+      known = M .known p q lp lq;
+    };
+  }
+    where
+      within : (p q : ℕ) → p < g .states → q < g .states → told g ends r p q ≡ true → entry square′ p q ≤ r
+      within p q lp lq t = leb-true (entry square′ p q) r (sym (M .old p q r lp lq (le-refl r)) ∙ t)
+
+      by : (p q a : ℕ) → p < g .states → q < g .states → a < g .symbols → told g ends r (g .next p a) (g .next q a) ≡ true → entry square′ p q ≤ suc r
+      by p q a lp lq la t =
+          let x = g .next p a in
+          let y = g .next q a in
+          let lx = c .next-in p a lp la in
+          let ly = c .next-in q a lq la in
+          ⊎-elim
+          (λ f. M .covered p q a lp lq la (all p a lp la (L .kept .rows-all x y lx f)) t)
+          (λ s. (let e = s .1 in let l = within p q lp lq (rw e (told-by g ends (s .0) p q a la (s .2))) in omega (arith, l)))
+          (layer-front x lx .all y ly t)
+
+      now : (p q : ℕ) → p < g .states → q < g .states → told g ends (suc r) p q ≡ leb (entry square′ p q) (suc r)
+      now p q lp lq =
+          both-ways
+          (λ t. le-leb (entry square′ p q) (suc r) (⊎-elim
+          (λ o. (let l = within p q lp lq o in omega (arith, l)))
+          (λ h. (let b = any-find (g .symbols) (onward g ends r p q) h in by p q (b .0) lp lq (b .1) (b .2)))
+          (or-cases (told g ends r p q) (any (g .symbols) (onward g ends r p q)) (sym (told-step g ends r p q) ∙ t))))
+          (λ t. (let l = leb-true (entry square′ p q) (suc r) t in ⊎-elim
+          (λ (h : entry square′ p q < suc r). told-more g ends r p q (M .old p q r lp lq (le-refl r) ∙ le-leb (entry square′ p q) r (omega (arith, h))))
+          (λ h. M .new p q lp lq (omega (arith, h, l)))
+          (lt-or-le (entry square′ p q) (suc r))))
+
+  -- ---- the last round
+
+  -- a round with a fresh pair is no later than the n * n-th
+  pub layer-early : Closed g → (p : ℕ) → rows p ≡ true → r ≤ g .states * g .states
+  layer-early c p t = go r refl
+    where
+      some : (p < g .states) × ((q : ℕ) × (setAt fresh p q ≡ true))
+      some = L .kept .rows-some p t
+
+      q : ℕ
+      q = some .1 .0
+
+      is : (ltb q (g .states) && eqb (entry square p q) r) ≡ true
+      is = sym (L .kept .fresh-is p q (some .0)) ∙ some .1 .1
+
+      lq : q < g .states
+      lq = ltb-true q (g .states) (and-left (ltb q (g .states)) (eqb (entry square p q) r) is)
+
+      at : entry square p q ≡ r
+      at = eqb-true (entry square p q) r (and-right (ltb q (g .states)) (eqb (entry square p q) r) is)
+
+      go : (z : ℕ) → r ≡ z → r ≤ g .states * g .states
+      go zero e = omega (arith, e)
+      go (suc s) e =
+          let st = L .stage p q (some .0) lq in
+          let before : told g ends s p q ≡ false = st .agrees s (omega (arith, e)) ∙ lt-leb (entry square p q) s (omega (arith, at, e)) in
+          let now : told g ends r p q ≡ true = st .agrees r (le-refl r) ∙ le-leb (entry square p q) r (omega (arith, at)) in
+          ⊎-elim
+          (λ (h : s < g .states * g .states). omega (arith, h, e))
+          (λ h. absurd (clash (told-up g ends (g .states * g .states) s p q h (told-settled g ends c r p q (some .0) lq now)) before))
+          (lt-or-le s (g .states * g .states))
+
+  -- where no pair is fresh, no further symbol tells two states apart, and the square is finished
+  module _ (c : Closed g) (none : (p : ℕ) → p < g .states → rows p ≡ false) (fits : r < never) where
+    not-here : (p q : ℕ) → p < g .states → q < g .states → entry square p q ≡ r → ⊥
+    not-here p q lp lq e =
+        clash (L .kept .rows-all p q lp
+        (L .kept .fresh-is p q lp ∙ and-both (ltb q (g .states)) (eqb (entry square p q) r) (lt-ltb q (g .states) lq) (eq-eqb (entry square p q) r e)))
+        (none p lp)
+
+    still : (p q : ℕ) → p < g .states → q < g .states → told g ends (suc r) p q ≡ told g ends r p q
+    still p q lp lq =
+        both-ways
+        (λ t. ⊎-elim
+        (λ o. o)
+        (λ h. (let b = any-find (g .symbols) (onward g ends r p q) h in by (b .0) (b .1) (b .2)))
+        (or-cases (told g ends r p q) (any (g .symbols) (onward g ends r p q)) (sym (told-step g ends r p q) ∙ t)))
+        (told-more g ends r p q)
+      where
+        by : (a : ℕ) → a < g .symbols → told g ends r (g .next p a) (g .next q a) ≡ true → told g ends r p q ≡ true
+        by a la t =
+            let x = g .next p a in
+            let y = g .next q a in
+            let lx = c .next-in p a lp la in
+            let ly = c .next-in q a lq la in
+            ⊎-elim
+            (λ f. absurd (clash (L .kept .rows-all x y lx f) (none x lx)))
+            (λ s. (let e = s .1 in rw e (told-by g ends (s .0) p q a la (s .2))))
+            (layer-front x lx .all y ly t)
+
+    module _ (p q : ℕ) (lp : p < g .states) (lq : q < g .states) where
+      entry-told : (v : List ℕ) → Tells g ends p q v → entry square p q ≤ r
+      entry-told v t = stage-entry p q lp lq (still-ever g ends c r (length v) p q still lp lq (told-complete g ends (length v) p q v (le-refl (length v)) t))
+
+      entry-least : (v : List ℕ) → Tells g ends p q v → entry square p q ≤ length v
+      entry-least v t =
+          ⊎-elim
+          (λ (l : r < length v). omega (arith, entry-told v t))
+          (λ l. leb-true (entry square p q) (length v)
+          (sym (L .stage p q lp lq .agrees (length v) (omega arith)) ∙ told-complete g ends (length v) p q v (le-refl (length v)) t))
+          (lt-or-le r (length v))
+
+      shortest : entry square p q ≤ r → Shortest (Tells g ends p q) (entry square p q)
+      shortest l =
+          let f = told-sound g ends (entry square p q) p q
+          (L .stage p q lp lq .agrees (entry square p q) l ∙ le-leb (entry square p q) (entry square p q) (le-refl (entry square p q))) in
+          record { word = f .word; has = f .tells; long = omega (arith, f .short, entry-least (f .word) (f .tells)); least = entry-least }
+
+      entry-noted : Noted (Tells g ends p q) (entry square p q)
+      entry-noted = record {
+        most = ⊎-elim (λ l. omega (arith, l, fits)) (λ h. omega (arith, h)) (L .stage p q lp lq .known);
+        found = λ l. shortest (⊎-elim (λ h. h) (λ h. absurd (omega (arith, h, l))) (L .stage p q lp lq .known));
+        none = λ h v t. omega (arith, entry-told v t, h, fits);
+      }
+
+    pub layer-last : Squared g ends square
+    layer-last = record { size = L .kept .size; noted = entry-noted }

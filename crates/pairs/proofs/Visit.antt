@@ -1,0 +1,38 @@
+-- The states of a set taken lowest first, each once; stated over tests of states, so that nothing is said of how a set is held.
+use mathlib.Core.Path.{_≡_, refl, sym, ap, _∙_}
+use mathlib.Core.Bool.{Bool, true, false, not, _&&_}
+use mathlib.Core.Logic.{⊎-elim}
+use Prim.Native.Nat.{ℕ, _≤_, _<_, zero-le}
+use native.Mathlib.Omega.{arith}
+use lib.Dec.{eqb, ltb}
+use borrow.Author.Tests.{eq-eqb, eqb-true, eqb-false, lt-ltb}
+use Rattle.theory.specs.Below.{first, count}
+use Rattle.theory.specs.Monitor.{stateLimit}
+use Rattle.theory.proofs.Below.{and-left, first-le, first-here, first-below, lt-or-le, count-more}
+
+-- the lowest state below the limit is in the set
+pub lowest-in : (f : ℕ → Bool) {y : ℕ} → y ≡ first f 0 stateLimit → y < stateLimit → f y ≡ true
+lowest-in f {y} e l = rw e (first-here f 0 stateLimit (omega (arith, e, l)))
+
+-- where there is none below the limit, the set is empty
+pub lowest-none : (f : ℕ → Bool) {y : ℕ} → y ≡ first f 0 stateLimit → stateLimit ≤ y → (q : ℕ) → q < stateLimit → f q ≡ false
+lowest-none f {y} e l q lq = first-below f 0 stateLimit q zero-le (omega (arith, e, l, lq))
+
+-- taken out, it leaves fewer
+pub lowest-less : (f h : ℕ → Bool) {y : ℕ} → y ≡ first f 0 stateLimit → y < stateLimit → ((q : ℕ) → h q ≡ (f q && not (eqb q y && ltb y stateLimit)))
+    → count stateLimit h < count stateLimit f
+lowest-less f h {y} e l is =
+    count-more stateLimit h f (λ q lq t. and-left (f q) (not (eqb q y && ltb y stateLimit)) (sym (is q) ∙ t)) y l
+    (is y ∙ rw (eq-eqb y y refl, lt-ltb y stateLimit l, lowest-in f e l)) (lowest-in f e l)
+
+module _ (f : ℕ → Bool) {b : Bool} (e : b ≡ eqb (first f 0 stateLimit) stateLimit) where
+  -- the test for an empty set
+  pub empty-none : b ≡ true → (q : ℕ) → q < stateLimit → f q ≡ false
+  empty-none t = lowest-none f refl (let z = eqb-true (first f 0 stateLimit) stateLimit (sym e ∙ t) in omega (arith, z))
+
+  pub empty-some : b ≡ false → (q : ℕ) × (q < stateLimit) × (f q ≡ true)
+  empty-some t =
+      let z = eqb-false (first f 0 stateLimit) stateLimit (sym e ∙ t) in
+      let m = first-le f 0 stateLimit in
+      let l : first f 0 stateLimit < stateLimit = ⊎-elim (λ h. h) (λ h. absurd (z (omega (arith, m, h)))) (lt-or-le (first f 0 stateLimit) stateLimit) in
+      (first f 0 stateLimit, l, lowest-in f refl l)

@@ -1,0 +1,133 @@
+-- How the search goes from the pairs at distance r to those at r + 1, through the predecessors of their states: what its
+-- functions require of each other.
+use mathlib.Core.Path.{_≡_}
+use mathlib.Core.Bool.{Bool, true, false, cond, not, _&&_, _||_}
+use mathlib.Core.List.{List}
+use mathlib.Core.Logic.{_⊎_}
+use Prim.Native.Nat.{ℕ, zero, suc, _+_, _*_, _≤_, _<_}
+use lib.Dec.{eqb, leb, ltb}
+use lib.ListN.{length, getD}
+use Rattle.theory.specs.Automaton.{Automaton, Closed}
+use Rattle.theory.specs.Monitor.{stateLimit, symbolLimit}
+use Rattle.theory.specs.Pairs.{told}
+use Rattle.state_set.specs.Member.{inWord}
+use Rattle.pairs.specs.declared.Test.{Test}
+use Rattle.pairs.specs.Square.{never, squareSize, entry, passing}
+
+-- ---- sets of states in arrays
+
+-- state q is in the set at place i
+abbrev pub setAt : List ℕ → ℕ → ℕ → Bool
+setAt sets i q = inWord (getD sets i 0) q
+
+-- the set at place i became that of the states that pass the test
+pub record Put (before : List ℕ) (i : ℕ) (test : ℕ → Bool) (after : List ℕ) : Type 0 where
+  pub size : length after ≡ length before
+  pub here : (q : ℕ) → setAt after i q ≡ test q
+  pub elsewhere : (j q : ℕ) → (j ≡ i → ⊥) → setAt after j q ≡ setAt before j q
+
+-- the first n sets are empty
+pub record Empty (n : ℕ) (sets : List ℕ) : Type 0 where
+  pub size : length sets ≡ stateLimit
+  pub none : (p q : ℕ) → p < n → setAt sets p q ≡ false
+
+-- ---- predecessors
+
+-- for each state x and symbol a, the states from which a leads to x, of those that were entered so far
+pub record Preceding (g : Automaton) (entered : ℕ → ℕ → Bool) (sets : List ℕ) : Type 0 where
+  pub size : length sets ≡ stateLimit * symbolLimit
+  pub at : (x a p : ℕ) → x < stateLimit → a < g .symbols
+      → setAt sets (x * symbolLimit + a) p ≡ (entered p a && eqb (g .next p a) x)
+
+-- all states below n were entered, and of p the symbols below a
+abbrev pub upTo : ℕ → ℕ → ℕ → ℕ → Bool
+upTo p a q b = ltb q p || (eqb q p && ltb b a)
+
+-- the states from which a leads to a state of the set
+pub record Into (g : Automaton) (a : ℕ) (set into : ℕ → Bool) : Type 0 where
+  pub at : (q : ℕ) → into q ≡ (ltb q (g .states) && set (g .next q a))
+
+-- ---- entries of a row
+
+-- the entries of row p became d for the states that pass the test
+pub record Entered (before : List ℕ) (p : ℕ) (test : ℕ → Bool) (d : ℕ) (after : List ℕ) : Type 0 where
+  pub size : length after ≡ length before
+  pub here : (q : ℕ) → q < stateLimit → entry after p q ≡ cond (test q) d (entry before p q)
+  pub elsewhere : (x q : ℕ) → x < stateLimit → q < stateLimit → (x ≡ p → ⊥) → entry after x q ≡ entry before x q
+
+-- ---- layers
+
+-- what the search goes by: an automaton, a test that no state passes with itself, and the predecessors of every state
+pub record Ground (g : Automaton) (ends : ℕ → ℕ → Bool) (predecessors : List ℕ) : Type 0 where
+  pub small : g .states ≤ stateLimit
+  pub closed : Closed g
+  pub self : (p : ℕ) → p < g .states → ends p p ≡ false
+  pub preceding : Preceding g (λ p a. ltb p (g .states)) predecessors
+
+-- the sets agree with the square in the rows below `upto`: the alike states of a row are not told apart from it, the fresh
+-- ones are at d, and `rows` are the rows that have a fresh one
+pub record Kept (n d upto : ℕ) (square alike fresh : List ℕ) (rows : ℕ → Bool) : Type 0 where
+  pub size : length square ≡ squareSize
+  pub alike-size : length alike ≡ stateLimit
+  pub fresh-size : length fresh ≡ stateLimit
+  pub alike-is : (p q : ℕ) → p < upto → setAt alike p q ≡ ((ltb q n && not (eqb q p)) && eqb (entry square p q) never)
+  pub fresh-is : (p q : ℕ) → p < upto → setAt fresh p q ≡ (ltb q n && eqb (entry square p q) d)
+  pub rows-some : (p : ℕ) → rows p ≡ true → (p < upto) × ((q : ℕ) × (setAt fresh p q ≡ true))
+  pub rows-all : (p q : ℕ) → p < upto → setAt fresh p q ≡ true → rows p ≡ true
+
+-- after r rounds: e is how many symbols tell p and q apart where at most r do, and never where they do not
+pub record Stage (g : Automaton) (ends : ℕ → ℕ → Bool) (r p q e : ℕ) : Type 0 where
+  pub agrees : (s : ℕ) → s ≤ r → told g ends s p q ≡ leb e s
+  pub known : (e ≤ r) ⊎ (e ≡ never)
+
+-- before the round after r: every pair has had r rounds, and the fresh ones are at r
+pub record Layer (g : Automaton) (ends : ℕ → ℕ → Bool) (r : ℕ) (square alike fresh : List ℕ) (rows : ℕ → Bool) : Type 0
+  where
+    pub kept : Kept (g .states) r (g .states) square alike fresh rows
+    pub stage : (p q : ℕ) → p < g .states → q < g .states → Stage g ends r p q (entry square p q)
+
+-- the states at distance r from x, and none that is not told apart from x within r
+pub record Front (g : Automaton) (ends : ℕ → ℕ → Bool) (r x : ℕ) (front : ℕ → Bool) : Type 0 where
+  pub sound : (y : ℕ) → front y ≡ true → (y < g .states) × (told g ends r x y ≡ true)
+  pub all : (y : ℕ) → y < g .states → told g ends r x y ≡ true
+      → (front y ≡ true) ⊎ ((s : ℕ) × (r ≡ suc s) × (told g ends s x y ≡ true))
+
+-- in the middle of the round after r: what was at most r is as it was, what is new is told apart within r + 1, and the
+-- row p has what symbol a adds to it where that is done
+pub record Midway (g : Automaton) (ends : ℕ → ℕ → Bool) (r : ℕ) (done : ℕ → ℕ → Bool) (square alike next : List ℕ)
+    (rows : ℕ → Bool) : Type 0 where
+  pub kept : Kept (g .states) (suc r) (g .states) square alike next rows
+  pub old : (p q s : ℕ) → p < g .states → q < g .states → s ≤ r → told g ends s p q ≡ leb (entry square p q) s
+  pub known : (p q : ℕ) → p < g .states → q < g .states → (entry square p q ≤ suc r) ⊎ (entry square p q ≡ never)
+  pub new : (p q : ℕ) → p < g .states → q < g .states → entry square p q ≡ suc r → told g ends (suc r) p q ≡ true
+  pub covered : (p q a : ℕ) → p < g .states → q < g .states → a < g .symbols → done p a ≡ true
+      → told g ends r (g .next p a) (g .next q a) ≡ true → entry square p q ≤ suc r
+
+-- the round goes on: with what is at distance r from x, more rows and symbols are done, whatever the test of two states
+pub record GoesAt (g : Automaton) (r x : ℕ) (front : ℕ → Bool) (more : ℕ → ℕ → Bool) (predecessors : List ℕ)
+    (square alike next : List ℕ) (rows : ℕ → Bool) (square′ alike′ next′ : List ℕ) (rows′ : ℕ → Bool) : Type 0 where
+  pub goes : (ends : ℕ → ℕ → Bool) (done : ℕ → ℕ → Bool) → Ground g ends predecessors → Front g ends r x front
+      → Midway g ends r done square alike next rows
+      → Midway g ends r (λ p a. done p a || more p a) square′ alike′ next′ rows′
+
+-- ---- what is done at a time
+
+-- one row with one symbol
+abbrev pub rowDone : ℕ → ℕ → ℕ → ℕ → Bool
+rowDone p a q b = eqb q p && eqb b a
+
+-- the rows that symbol a leads to x
+abbrev pub symbolDone : Automaton → ℕ → ℕ → ℕ → ℕ → Bool
+symbolDone g x a q b = eqb (g .next q b) x && eqb b a
+
+-- the rows that a symbol below k leads to x
+abbrev pub stateDone : Automaton → ℕ → ℕ → ℕ → ℕ → Bool
+stateDone g x k q b = eqb (g .next q b) x && ltb b k
+
+-- ---- before the first round
+
+-- the rows below p hold 0 for the states that pass the test, and the others are as they were filled
+pub record Begun (test : Test) (outs : List ℕ) (p : ℕ) (square alike fresh : List ℕ) (rows : ℕ → Bool) : Type 0 where
+  pub kept : Kept (length outs) 0 p square alike fresh rows
+  pub done : (x q : ℕ) → x < p → q < length outs → entry square x q ≡ cond (passing test outs x q) 0 never
+  pub rest : (x q : ℕ) → p ≤ x → x < length outs → q < stateLimit → entry square x q ≡ never
