@@ -46,7 +46,7 @@ fn examine(out: Output, body: &[u8], set: usize, domain: usize, room: usize) -> 
         return answered;
     };
     let sent = basics::part(lent, 0, witness.distance);
-    printing::counts(printing::bytes(answered.text(b" sent"), sent), answer)
+    printing::counts(printing::bytes(answered.text(b" sent"), sent), witness)
 }
 
 fn of_body(out: Output, form: Form, body: &[u8], messages: &[u8]) -> Output {

@@ -11,6 +11,7 @@ use output::Output;
 use readings::Count;
 use readings::Stepped;
 use readings::Traced;
+use trust::Trust;
 use witness::Witness;
 
 // A refusal, as `refused`, its number and its place.
@@ -21,7 +22,7 @@ pub fn refusal(out: Output, r: Refusal) -> Output {
         .number(r.place)
 }
 
-// What is wrong with a body, or with what is asked of it: 1 to 13.
+// What is wrong with a body, or with what is asked of it: 1 to 13 and 19.
 fn body_reason(out: Output, number: usize) -> Output {
     match number {
         1 => out.text(b"shorter than 3 bytes"),
@@ -37,6 +38,7 @@ fn body_reason(out: Output, number: usize) -> Output {
         11 => out.text(b"the state asked about is none of the states"),
         12 => out.text(b"a message that is none of the messages"),
         13 => out.text(b"the answer does not fit the area lent for it"),
+        19 => out.text(b"the verdict is none of the reading's"),
         _ => out.text(b"no refusal has this number"),
     }
 }
@@ -45,6 +47,7 @@ fn body_reason(out: Output, number: usize) -> Output {
 pub fn has_reason(number: usize) -> bool {
     match number {
         1..=13 => true,
+        19 => true,
         20..=28 => true,
         _ => false,
     }
@@ -167,9 +170,10 @@ pub fn traced(out: Output, answer: Traced) -> Output {
     }
 }
 
-fn witness(out: Output, w: Witness) -> Output {
+// The figures of a witness.
+fn figures(out: Output, w: Witness) -> Output {
     let kind = w.kind;
-    out.text(b"vulnerable distance ")
+    out.text(b" distance ")
         .number(w.distance)
         .text(b" before ")
         .number(w.before)
@@ -187,17 +191,31 @@ pub fn finding(out: Output, answer: Finding) -> Output {
     match answer {
         Finding::Refused(r) => refusal(out, r),
         Finding::Immune => out.text(b"immune"),
-        Finding::Vulnerable(w) => witness(out, w),
+        Finding::Vulnerable(w) => figures(out.text(b"vulnerable"), w),
     }
 }
 
-// The counts of a witness, sent before received. Any other finding has none.
-pub fn counts(out: Output, answer: Finding) -> Output {
-    let Finding::Vulnerable(w) = answer else {
-        return out;
-    };
+pub fn trusted(out: Output, answer: Trust) -> Output {
+    match answer {
+        Trust::Refused(r) => refusal(out, r),
+        Trust::Yes => out.text(b"yes"),
+        Trust::No(w) => figures(out.text(b"no"), w),
+    }
+}
+
+// The counts of a witness, sent before received.
+pub fn counts(out: Output, w: Witness) -> Output {
     let both = w.counts;
     let sent = both.sent;
     let received = both.received;
     count(count(out.text(b" counts "), sent).text(b" "), received)
+}
+
+// A finding, and behind it the counts of its witness.
+pub fn counted_finding(out: Output, answer: Finding) -> Output {
+    let answered = finding(out, answer);
+    let Finding::Vulnerable(w) = answer else {
+        return answered;
+    };
+    counts(answered, w)
 }

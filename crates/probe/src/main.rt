@@ -4,6 +4,7 @@
 use basics::Writing;
 use output::Output;
 use output::Program;
+use trust::Trust;
 ghost use Prim.Native.Nat.{_+_, _≤_, _<_};
 ghost use lib.ListN.{length};
 
@@ -34,8 +35,7 @@ fn examine(out: Output, set: usize, domain: usize, room: usize, body: &[u8]) -> 
     if room <= 256 {
         let lent = &mut area[0..room];
         let answer = immunity::examine(body, set, domain, lent);
-        let answered = printing::counts(printing::finding(out, answer), answer);
-        return printing::bytes(answered, lent);
+        return printing::bytes(printing::counted_finding(out, answer), lent);
     }
     out
 }
@@ -87,6 +87,29 @@ fn write(out: Output, rules: usize, lengths: usize, room: usize, bytes: &[u8]) -
     printing::bytes(printing::writing(out, answer), lent)
 }
 
+// Whether a verdict can be believed, and the counts of the witness if it cannot.
+fn trusted(out: Output, answer: Trust) -> Output {
+    let answered = printing::trusted(out, answer);
+    let Trust::No(witness) = answer else {
+        return answered;
+    };
+    printing::counts(answered, witness)
+}
+
+// Call 7: the numbers are the fault set, the reading and the verdict. The length of the area, which is full of 255
+// before the call, stands before the body in two bytes.
+fn believe(out: Output, set: usize, domain: usize, verdict: usize, bytes: &[u8]) -> Output {
+    let mut area = [255u8; 1024];
+    let room = two_bytes(bytes) as usize;
+    if room <= 1024 {
+        let lent = &mut area[0..room];
+        let body = basics::part(bytes, 2, bytes.len());
+        let answer = trust::believe(body, set, domain, verdict, lent);
+        return printing::bytes(trusted(out, answer), lent);
+    }
+    out
+}
+
 // The answer to a frame that has its numbers.
 fn answered(out: Output, frame: &[u8], bytes: &[u8]) -> Output {
     let a = basics::byte_at(frame, 1);
@@ -99,6 +122,7 @@ fn answered(out: Output, frame: &[u8], bytes: &[u8]) -> Output {
         4 => examine(out, a, b, c, bytes),
         5 => card(out, bytes),
         6 => write(out, a, b, c, bytes),
+        7 => believe(out, a, b, c, bytes),
         _ => trace(out, a, b, bytes),
     }
 }

@@ -21,7 +21,7 @@ fn example(name: &[u8], body: &[u8], set: usize, domain: usize, room: usize) {
     if room <= 4 {
         let lent = &mut area[0..room];
         let answer = immunity::examine(body, set, domain, lent);
-        let answered = printing::counts(printing::finding(asked, answer), answer);
+        let answered = printing::counted_finding(asked, answer);
         printing::bytes(answered.text(b", area"), lent).text(b"\n");
     }
 }
