@@ -17,21 +17,41 @@ use page::Page;
 use theory::STATE_LIMIT;
 use witness::WITNESS_ROOM;
 
-// The finding under one fault and one reading.
-fn fault(out: Output, body: &[u8], kind: Kind, domain: usize) -> Output {
-    let named = words::fault_name(out, kind);
-    let mut area = [0u8; WITNESS_ROOM];
-    let set = FaultSet::empty().with(kind).number();
-    let finding = immunity::examine(body, set, domain, &mut area);
-    let Finding::Vulnerable(witness) = finding else {
-        return words::no_witness(named, finding);
+// The finding under one fault and one reading. The area is lent for a witness.
+fn finding(out: Output, body: &[u8], set: usize, domain: usize, area: &mut [u8]) -> Output {
+    let answer = immunity::examine(body, set, domain, area);
+    let Finding::Vulnerable(witness) = answer else {
+        return words::no_witness(out, answer);
     };
     drawing::traces::draw(
-        named,
-        basics::part(&area, 0, witness.distance),
+        out,
+        basics::part(area, 0, witness.distance),
         witness,
         domain,
     )
+}
+
+// Whether a mark can be believed when it is received under one fault.
+fn believed(out: Output, body: &[u8], set: usize, mark: usize, area: &mut [u8]) -> Output {
+    words::belief(out, trust::believe(body, set, 3, mark, area))
+}
+
+// The line with all three marks.
+fn believe_line(out: Output, body: &[u8], set: usize, area: &mut [u8]) -> Output {
+    let found = believed(out.text(b"    believe:      true "), body, set, 1, area);
+    let refuted = believed(found.text(b", false "), body, set, 2, area);
+    believed(refuted.text(b", not yet "), body, set, 0, area).text(b"\n")
+}
+
+// What is shown of one fault: the finding and, by marks, which of them can be believed. Both use one area.
+fn fault(out: Output, body: &[u8], kind: Kind, domain: usize) -> Output {
+    let mut area = [0u8; WITNESS_ROOM];
+    let set = FaultSet::empty().with(kind).number();
+    let found = finding(words::fault_name(out, kind), body, set, domain, &mut area);
+    if domain == 3 {
+        return believe_line(found, body, set, &mut area);
+    }
+    found
 }
 
 // Each fault alone, in the written order.

@@ -1,8 +1,9 @@
-// The words of a card: refusals, monitorability and faults; and what the program says of itself.
+// The words of a card: refusals, monitorability, faults and beliefs; and what the program says of itself.
 use basics::Refusal;
 use faults::Kind;
 use immunity::Finding;
 use output::Output;
+use trust::Trust;
 
 pub fn usage() {
     output::error_text(
@@ -20,7 +21,10 @@ pub fn help(out: Output) {
         .text(
             b"whether the rule is immune or the shortest trace that the fault harms, as sent and as received.\n",
         )
-        .text(b"Brackets show what the fault strikes.\n\n")
+        .text(b"Brackets show what the fault strikes.\n")
+        .text(
+            b"The believe line says of each mark whether, where the received trace reads it, the sent one does.\n\n",
+        )
         .text(b"Example: card 20 < samples/sample.collection\n")
         .text(b"docs/FORMAT.md in the repository explains the words and the numbers.\n");
 }
@@ -81,6 +85,15 @@ pub fn no_witness(out: Output, finding: Finding) -> Output {
         return out.text(b"immune\n");
     };
     body_refusal(out, r)
+}
+
+// Whether a verdict can be believed.
+pub fn belief(out: Output, answer: Trust) -> Output {
+    match answer {
+        Trust::Refused(r) => printing::refusal(out, r),
+        Trust::Yes => out.text(b"yes"),
+        Trust::No(_) => out.text(b"no"),
+    }
 }
 
 // A number and what it counts, in the singular or the plural.
