@@ -11,81 +11,10 @@ use asking::lists;
 use asking::messages;
 use asking::messages::Gathered;
 use basics::Writing;
-use classes::Classification;
-use collection::Collected;
-use collection::Lookup;
-use immunity::Finding;
 use input::Input;
 use output::Output;
 use output::Program;
-use witness::WITNESS_ROOM;
 ghost use Prim.Native.Nat.{_≤_};
-
-// The answer, and the class of each state. So many bytes are lent, but no more than the longest answer takes.
-fn classify(out: Output, body: &[u8], room: usize) -> Output {
-    let mut area = [0u8; WITNESS_ROOM];
-    let end = basics::least_of(room, WITNESS_ROOM);
-    let lent = &mut area[0..end];
-    let answer = classes::classify(body, lent);
-    let answered = printing::classification(out, answer);
-    let Classification::Classified { .. } = answer else {
-        return answered;
-    };
-    let listed = basics::part(lent, 0, basics::byte_at(body, 0));
-    printing::bytes(answered.text(b" classes"), listed)
-}
-
-// The finding, and the sent trace of a witness. So many bytes are lent, but no more than the longest answer takes.
-fn examine(out: Output, body: &[u8], set: usize, domain: usize, room: usize) -> Output {
-    let mut area = [0u8; WITNESS_ROOM];
-    let end = basics::least_of(room, WITNESS_ROOM);
-    let lent = &mut area[0..end];
-    let answer = immunity::examine(body, set, domain, lent);
-    let answered = printing::finding(out, answer);
-    let Finding::Vulnerable(witness) = answer else {
-        return answered;
-    };
-    let sent = basics::part(lent, 0, witness.distance);
-    printing::counts(printing::bytes(answered.text(b" sent"), sent), witness)
-}
-
-fn of_body(out: Output, form: Form, body: &[u8], messages: &[u8]) -> Output {
-    match form {
-        Form::Judge => printing::judgement(out, monitor::judge(body)),
-        Form::Body => printing::bytes(out.text(b"body"), body),
-        Form::Classes { room } => classify(out, body, room),
-        Form::Step {
-            domain,
-            state,
-            symbol,
-        } => printing::stepped(out, readings::step(body, domain, state, symbol)),
-        Form::Trace { domain, .. } => printing::traced(
-            out,
-            readings::trace(body, domain, messages),
-        ),
-        Form::Fault { set, domain, room } => examine(out, body, set, domain, room),
-    }
-}
-
-// The form asked of the body of a rule, where the collection is accepted and has the rule.
-fn of_rule(out: Output, rule: usize, form: Form, file: &[u8], messages: &[u8]) -> Output {
-    let judged = collection::judge(file);
-    let Collected::Accepted { .. } = judged else {
-        return printing::collected(out, judged);
-    };
-    let Lookup::Entry(i) = collection::find(file, rule) else {
-        return out.text(b"absent");
-    };
-    of_body(out, form, collection::body(file, i), messages)
-}
-
-fn of_subject(out: Output, subject: Subject, form: Form, input: &[u8], messages: &[u8]) -> Output {
-    match subject {
-        Subject::Body => of_body(out, form, input, messages),
-        Subject::Rule(rule) => of_rule(out, rule, form, input, messages),
-        Subject::Collection => printing::collected(out, collection::judge(input)),
-    }
-}
 
 // What is answered where the input is not there whole: that it is too long, or nothing.
 fn answer_unread(read: Input) {
@@ -103,7 +32,7 @@ fn answer(subject: Subject, form: Form, messages: &[u8], space: &mut [u8]) {
         return;
     };
     let out = output::standard(Program::Ask);
-    of_subject(out, subject, form, basics::part(space, 0, length), messages).text(b"\n");
+    answering::answer(out, subject, form, basics::part(space, 0, length), messages).text(b"\n");
 }
 
 // The answer to a trace, after its messages are gathered into the area.

@@ -7,8 +7,9 @@ pub fn usage() {
     output::error_text(
         b"usage: ask judge | classes AREA | step READING STATE MESSAGE | trace READING MESSAGE..",
     );
-    output::error_text(b" | trace READING @FILE | fault SET READING AREA | rule RULE FORM..");
-    output::error_text(b" | body RULE | collection | write AREA RULE.. / LENGTH.. | why NUMBER");
+    output::error_text(b" | trace READING @FILE | fault SET READING AREA");
+    output::error_text(b" | trust SET READING VERDICT AREA | rule RULE FORM.. | body RULE");
+    output::error_text(b" | collection | write AREA RULE.. / LENGTH.. | why NUMBER");
     output::error_text(b"; ask --help says more\n");
 }
 
@@ -16,30 +17,37 @@ fn forms(out: Output) -> Output {
     out.text(
             b"ask answers one question on one line. The table's body is read from standard input:\n",
         )
-        .text(b"  ask judge                        accepted, or refused\n")
+        .text(b"  ask judge                          accepted, or refused\n")
         .text(
-            b"  ask classes AREA                 monitorability, states reached, the class of each state\n",
+            b"  ask classes AREA                   monitorability, states reached, the class of each state\n",
         )
-        .text(b"  ask step READING STATE MESSAGE   the next state and its reading\n")
+        .text(b"  ask step READING STATE MESSAGE     the next state and its reading\n")
         .text(
-            b"  ask trace READING MESSAGE..      the reading, and after how many messages the verdict fell\n",
+            b"  ask trace READING MESSAGE..        the reading, and after how many messages the verdict fell\n",
         )
         .text(
-            b"  ask trace READING @FILE          the same for the bytes of a file, a message each\n",
+            b"  ask trace READING @FILE            the same for the bytes of a file, a message each\n",
         )
-        .text(b"  ask fault SET READING AREA       immune, or vulnerable with the first witness\n")
+        .text(
+            b"  ask fault SET READING AREA         immune, or vulnerable with the first witness\n",
+        )
+        .text(
+            b"  ask trust SET READING VERDICT AREA yes: VERDICT can be believed, or no with the first witness\n",
+        )
         .text(b"Or a collection is:\n")
         .text(
-            b"  ask rule RULE FORM..             one of these forms, judge to fault, for a rule's body\n",
+            b"  ask rule RULE FORM..               one of these forms, judge to trust, for a rule's body\n",
         )
-        .text(b"  ask body RULE                    the bytes of a rule's body\n")
-        .text(b"  ask collection                   accepted and the number of rules, or refused\n")
+        .text(b"  ask body RULE                      the bytes of a rule's body\n")
+        .text(
+            b"  ask collection                     accepted and the number of rules, or refused\n",
+        )
         .text(b"Or bodies are, one behind the other:\n")
         .text(
-            b"  ask write AREA RULE.. / LENGTH.. the bytes of the collection that has these rules and bodies\n",
+            b"  ask write AREA RULE.. / LENGTH..   the bytes of the collection that has these rules and bodies\n",
         )
         .text(b"Nothing is read:\n")
-        .text(b"  ask why NUMBER                   what the number of a refusal stands for\n")
+        .text(b"  ask why NUMBER                     what the number of a refusal stands for\n")
 }
 
 pub fn help() {
@@ -48,9 +56,15 @@ pub fn help() {
             b"\nA reading is 3 (marks) or 6 (classes); a set is the sum of loss 1, corruption 2, repeat 4, swap 8;\n",
         )
         .text(
-            b"AREA is the number of bytes lent for the answer: 5000 is always enough, for write 69634.\n",
+            b"a verdict is 0 not yet, 1 true, 2 false under reading 3, under reading 6 a class: 0 good, 1 bad,\n",
         )
-        .text(b"A refusal is the word refused, a number and a place.\n\n")
+        .text(
+            b"2 positive, 3 negative, 4 neutral, 5 ugly. It can be believed if the sent trace reads it wherever\n",
+        )
+        .text(
+            b"the received one does. AREA is the number of bytes lent for the answer: 5000 is always enough, for\n",
+        )
+        .text(b"write 69634. A refusal is the word refused, a number and a place.\n\n")
         .text(b"Example: ask rule 20 fault 8 3 3 < samples/sample.collection\n")
         .text(
             b"docs/FORMAT.md in the repository explains the bytes, the numbers and the answers.\n",

@@ -43,6 +43,12 @@ pub enum Form {
         domain: usize,
         room: usize,
     },
+    Trust {
+        set: usize,
+        domain: usize,
+        verdict: usize,
+        room: usize,
+    },
 }
 
 pub enum Asked {
@@ -75,6 +81,7 @@ enum Word {
     Step,
     Trace,
     Fault,
+    Trust,
     Other,
 }
 
@@ -93,6 +100,9 @@ fn form_word(text: &[u8]) -> Word {
     }
     if check::same(text, b"fault") {
         return Word::Fault;
+    }
+    if check::same(text, b"trust") {
+        return Word::Trust;
     }
     Word::Other
 }
@@ -178,7 +188,7 @@ fn trace_asked(subject: Subject, at: usize, behind: usize, space: &mut [u8]) -> 
     Asked::Form { subject, form }
 }
 
-// Three numbers and no more, for the forms that have as many.
+// Three numbers, for the forms that have as many and for the first of four.
 enum Numbers {
     Three {
         first: usize,
@@ -240,6 +250,32 @@ fn fault_asked(subject: Subject, numbers: Numbers) -> Asked {
     Asked::Form { subject, form }
 }
 
+fn trust_asked(subject: Subject, at: usize, behind: usize, space: &mut [u8]) -> Asked
+    requires { ⌜ at ≤ 4 ⌝ }
+{
+    if behind != 4 {
+        return Asked::Unclear;
+    }
+    let Numbers::Three {
+        first: set,
+        second: domain,
+        third: verdict,
+    } = three_numbers(at, 3, space)
+    else {
+        return Asked::Unclear;
+    };
+    let Decimal::Number(room) = arguments::number_at(at + 3, space) else {
+        return Asked::Unclear;
+    };
+    let form = Form::Trust {
+        set,
+        domain,
+        verdict,
+        room,
+    };
+    Asked::Form { subject, form }
+}
+
 // The form of this word.
 fn form_asked(word: Word, subject: Subject, at: usize, behind: usize, space: &mut [u8]) -> Asked
     requires { ⌜ at ≤ 4 ⌝ }
@@ -250,6 +286,7 @@ fn form_asked(word: Word, subject: Subject, at: usize, behind: usize, space: &mu
         Word::Step => step_asked(subject, three_numbers(at, behind, space)),
         Word::Trace => trace_asked(subject, at, behind, space),
         Word::Fault => fault_asked(subject, three_numbers(at, behind, space)),
+        Word::Trust => trust_asked(subject, at, behind, space),
         _ => Asked::Unclear,
     }
 }

@@ -1,0 +1,110 @@
+// The answers of the program `ask` about a body, the body of a rule of a collection, or that collection.
+use asking::asked::Form;
+use asking::asked::Subject;
+use classes::Classification;
+use collection::Collected;
+use collection::Lookup;
+use immunity::Finding;
+use output::Output;
+use trust::Trust;
+use witness::WITNESS_ROOM;
+use witness::Witness;
+
+// The answer, and the class of each state. So many bytes are lent, but no more than the longest answer takes.
+fn classify(out: Output, body: &[u8], room: usize) -> Output {
+    let mut area = [0u8; WITNESS_ROOM];
+    let end = basics::least_of(room, WITNESS_ROOM);
+    let lent = &mut area[0..end];
+    let answer = classes::classify(body, lent);
+    let answered = printing::classification(out, answer);
+    let Classification::Classified { .. } = answer else {
+        return answered;
+    };
+    let listed = basics::part(lent, 0, basics::byte_at(body, 0));
+    printing::bytes(answered.text(b" classes"), listed)
+}
+
+// Behind the figures of a witness its sent trace, which stands first in the area, and its counts.
+fn sent_and_counts(out: Output, witness: Witness, area: &[u8]) -> Output {
+    let sent = basics::part(area, 0, witness.distance);
+    printing::counts(printing::bytes(out.text(b" sent"), sent), witness)
+}
+
+// The finding, and the sent trace of a witness. So many bytes are lent, but no more than the longest answer takes.
+fn examine(out: Output, body: &[u8], set: usize, domain: usize, room: usize) -> Output {
+    let mut area = [0u8; WITNESS_ROOM];
+    let end = basics::least_of(room, WITNESS_ROOM);
+    let lent = &mut area[0..end];
+    let answer = immunity::examine(body, set, domain, lent);
+    let answered = printing::finding(out, answer);
+    let Finding::Vulnerable(witness) = answer else {
+        return answered;
+    };
+    sent_and_counts(answered, witness, lent)
+}
+
+// The answer on a verdict, and the sent trace of a witness against it. So many bytes are lent likewise.
+fn believe(
+    out: Output,
+    body: &[u8],
+    set: usize,
+    domain: usize,
+    verdict: usize,
+    room: usize,
+) -> Output {
+    let mut area = [0u8; WITNESS_ROOM];
+    let end = basics::least_of(room, WITNESS_ROOM);
+    let lent = &mut area[0..end];
+    let answer = trust::believe(body, set, domain, verdict, lent);
+    let answered = printing::trusted(out, answer);
+    let Trust::No(witness) = answer else {
+        return answered;
+    };
+    sent_and_counts(answered, witness, lent)
+}
+
+fn of_body(out: Output, form: Form, body: &[u8], messages: &[u8]) -> Output {
+    match form {
+        Form::Judge => printing::judgement(out, monitor::judge(body)),
+        Form::Body => printing::bytes(out.text(b"body"), body),
+        Form::Classes { room } => classify(out, body, room),
+        Form::Step {
+            domain,
+            state,
+            symbol,
+        } => printing::stepped(out, readings::step(body, domain, state, symbol)),
+        Form::Trace { domain, .. } => printing::traced(
+            out,
+            readings::trace(body, domain, messages),
+        ),
+        Form::Fault { set, domain, room } => examine(out, body, set, domain, room),
+        Form::Trust {
+            set,
+            domain,
+            verdict,
+            room,
+        } => believe(out, body, set, domain, verdict, room),
+    }
+}
+
+// The form asked of the body of a rule, where the collection is accepted and has the rule.
+fn of_rule(out: Output, rule: usize, form: Form, file: &[u8], messages: &[u8]) -> Output {
+    let judged = collection::judge(file);
+    let Collected::Accepted { .. } = judged else {
+        return printing::collected(out, judged);
+    };
+    let Lookup::Entry(i) = collection::find(file, rule) else {
+        return out.text(b"absent");
+    };
+    of_body(out, form, collection::body(file, i), messages)
+}
+
+// The answer to a form, without the end of its line. The input is the body or the collection; a trace has these
+// messages.
+pub fn answer(out: Output, subject: Subject, form: Form, input: &[u8], messages: &[u8]) -> Output {
+    match subject {
+        Subject::Body => of_body(out, form, input, messages),
+        Subject::Rule(rule) => of_rule(out, rule, form, input, messages),
+        Subject::Collection => printing::collected(out, collection::judge(input)),
+    }
+}
