@@ -5,6 +5,9 @@
 
 enum { STATES = 64, SYMBOLS = 16, LOSS = 1, CORRUPTION = 2, REPEAT = 4, SWAP = 8 };
 
+// No sent trace of a witness is longer.
+enum { WITNESS = STATES * STATES + STATES + 2 };
+
 // An accepted table. The successors of state q are next[q * k] to next[q * k + k - 1].
 struct table {
     int n, k, start;
@@ -47,10 +50,14 @@ struct card {
     int monitorability, distance[4];
 };
 
+// Of a question of trust IMMUNE says that the verdict can be believed.
 enum finding { IMMUNE, VULNERABLE, NO_ROOM };
 
 enum finding examine(const struct table *t, int set, int reading, uint8_t *area, int room, struct witness *w);
 struct card card_of(const struct table *t);
+
+// The question of trust. Only (a) knows it: in (b) the function is missing, and its address is null.
+enum finding believe(const struct table *t, int set, int reading, int verdict, uint8_t *area, int room, struct witness *w) __attribute__((weak));
 
 // The fault step of this kind at state p: the states after the sent and after the received messages, and the sent messages. Returns how many are sent.
 static inline int strike(const struct table *t, int p, int kind, int first, int second, int *x, int *y, uint8_t *sent)

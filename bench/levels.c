@@ -1,7 +1,8 @@
 // Baseline (b): no square. Moore's partition of the states, round by round; two states are told apart after r symbols where round r is the first
 // that has them in different blocks. A round is made from the one before by Hopcroft's rule: of the parts of a block that the last round split, all
 // but the largest split the blocks of this one. Sets of states are words. Only states that the start reaches are looked at, nearest first, and
-// no further than the best total found so far allows.
+// no further than the best total found so far allows. The question of trust is not answered here: where it tells two states apart depends on which
+// of them was sent, and a partition knows no order.
 #include "bench.h"
 #include <string.h>
 

@@ -1,5 +1,5 @@
-// The programs `listing` and `probe` around a baseline, and `ask trace` for reading 3: the same input, the same text. The
-// first argument says which.
+// The programs `listing` and `probe` around a baseline, and of `ask` the forms `fault`, `trust` where the baseline knows
+// it, and `trace` for reading 3: the same input, the same text. The first argument says which.
 #include "bench.h"
 #include <stdio.h>
 #include <stdlib.h>
@@ -132,38 +132,61 @@ static void print_card(const uint8_t *body, int len)
             text(" -");
 }
 
+// Questions 1 to 10: a body, a fault set and a reading.
+static int judge_question(const uint8_t *body, int len, int set, int reading, int *place, struct table *t)
+{
+    int no = judge(body, len, place, t);
+    if (no)
+        return no;
+    *place = 0;
+    if (set > 15)
+        return 9;
+    return reading != 3 && reading != 6 ? 10 : 0;
+}
+
+static void figures(const char *words, const struct witness *w)
+{
+    number(words, w->distance);
+    number(" before ", w->before);
+    number(" kind ", w->kind);
+    number(" replacement ", w->replacement);
+    number(" readings ", w->sent);
+    number(" ", w->received);
+}
+
+static void counts(const struct witness *w)
+{
+    count(" counts ", w->sent_count);
+    count(" ", w->received_count);
+}
+
+static void bytes(const uint8_t *b, int len)
+{
+    for (int i = 0; i < len; i++)
+        number(" ", b[i]);
+}
+
 static void print_finding(int set, int reading, int room, const uint8_t *body, int len)
 {
     uint8_t area[256];
     struct table t;
     struct witness w;
     enum finding finding = IMMUNE;
-    int place, no = judge(body, len, &place, &t);
+    int place, no = judge_question(body, len, set, reading, &place, &t);
     memset(area, 255, sizeof area);
-    if (no == 0 && set > 15)
-        no = 9, place = 0;
-    if (no == 0 && reading != 3 && reading != 6)
-        no = 10, place = 0;
     if (no == 0)
         finding = examine(&t, set, reading, area, room, &w);
     if (finding == NO_ROOM)
-        no = 13, place = 0;
+        no = 13;
     if (no)
         refusal(no, place);
     else if (finding == IMMUNE)
         text("immune");
     else {
-        number("vulnerable distance ", w.distance);
-        number(" before ", w.before);
-        number(" kind ", w.kind);
-        number(" replacement ", w.replacement);
-        number(" readings ", w.sent);
-        number(" ", w.received);
-        count(" counts ", w.sent_count);
-        count(" ", w.received_count);
+        figures("vulnerable distance ", &w);
+        counts(&w);
     }
-    for (int i = 0; i < room; i++)
-        number(" ", area[i]);
+    bytes(area, room);
 }
 
 // Frames of call 4: a length of two bytes, the call, three numbers, the body. No other call is asked here.
@@ -250,6 +273,49 @@ static void trace(const uint8_t *body, int len, int reading, const char *path)
     end_line();
 }
 
+// The answer of `ask` to a question for a witness: one word where there is none, others before its figures.
+static void print_witness(enum finding finding, const char *none, const char *found, const struct witness *w, const uint8_t *area)
+{
+    if (finding == NO_ROOM)
+        refusal(13, 0);
+    else if (finding == IMMUNE)
+        text(none);
+    else {
+        figures(found, w);
+        text(" sent");
+        bytes(area, w->distance);
+        counts(w);
+    }
+}
+
+static void fault(const uint8_t *body, int len, int set, int reading, int room)
+{
+    uint8_t area[WITNESS];
+    struct table t;
+    struct witness w;
+    int place, no = judge_question(body, len, set, reading, &place, &t);
+    if (no)
+        refusal(no, place);
+    else
+        print_witness(examine(&t, set, reading, area, room < WITNESS ? room : WITNESS, &w), "immune", "vulnerable distance ", &w, area);
+    end_line();
+}
+
+static void trust(const uint8_t *body, int len, int set, int reading, int verdict, int room)
+{
+    uint8_t area[WITNESS];
+    struct table t;
+    struct witness w;
+    int place, no = judge_question(body, len, set, reading, &place, &t);
+    if (no == 0 && verdict >= reading)
+        no = 19;
+    if (no)
+        refusal(no, place);
+    else
+        print_witness(believe(&t, set, reading, verdict, area, room < WITNESS ? room : WITNESS, &w), "yes", "no distance ", &w, area);
+    end_line();
+}
+
 int main(int argc, char **argv)
 {
     static uint8_t input[INPUT + 1];
@@ -260,6 +326,10 @@ int main(int argc, char **argv)
         probe(input, len < INPUT ? len : INPUT);
     else if (argc == 4 && strcmp(argv[1], "trace") == 0)
         trace(input, len, atoi(argv[2]), argv[3]);
+    else if (argc == 5 && strcmp(argv[1], "fault") == 0)
+        fault(input, len, atoi(argv[2]), atoi(argv[3]), atoi(argv[4]));
+    else if (argc == 6 && strcmp(argv[1], "trust") == 0 && believe)
+        trust(input, len, atoi(argv[2]), atoi(argv[3]), atoi(argv[4]), atoi(argv[5]));
     else
         return 2;
     flush();

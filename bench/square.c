@@ -1,5 +1,7 @@
-// Baseline (a): the library's algorithm. The distances of all pairs of states stand in one square, refined round by round;
-// from it come the cheapest fault step at each state, the totals, and the witness.
+// Baseline (a): the library's algorithm. The distances of all pairs of states stand in one square; the pairs at r + 1 are
+// found from those at r through the predecessors of their two states, and sets of states are words. From the square come
+// the cheapest fault step at each state, the totals, and the witness. The question of trust is the same search with
+// another test of what tells two states apart.
 #include "bench.h"
 #include <stddef.h>
 #include <string.h>
@@ -82,37 +84,101 @@ static void write_classes(const struct table *t, uint8_t *outputs)
 
 // ---- the square
 
-// The round after r. Returns whether it added a pair.
-static bool refine(const struct table *t, square s, uint16_t r)
+// What tells two states apart, the sent one first: that they read otherwise, or, if the test is a verdict, that the
+// received one reads it and the sent one does not.
+enum { DIFFER = -1 };
+
+static inline bool passes(int test, int sent, int received)
 {
-    bool added = false;
-    size_t n = t->n, k = t->k;
-    const uint8_t *x = t->next;
-    for (size_t p = 0; p < n; p++, x += k) {
-        const uint8_t *y = t->next;
-        for (size_t q = 0; q < n; q++, y += k) {
-            if (s[p][q] != NEVER)
-                continue;
-            for (size_t a = 0; a < k; a++)
-                if (s[x[a]][y[a]] <= r) {
-                    s[p][q] = r + 1;
-                    added = true;
-                    break;
-                }
-        }
-    }
-    return added;
+    return test == DIFFER ? sent != received : received == test && sent != test;
 }
 
-static void distances(const struct table *t, const uint8_t *outputs, square s)
+// What the square is made with. Of each array only what n states and k symbols need is used.
+struct pairs {
+    uint64_t predecessors[SYMBOLS][STATES];  // the states from which a symbol leads to a state
+    uint64_t alike[STATES];                  // the states that are not told apart from a state so far, without itself
+    uint64_t fresh[2][STATES];               // those that the last round told apart from it, and this one
+};
+
+static void find_predecessors(const struct table *t, struct pairs *pairs)
 {
+    size_t n = t->n, k = t->k;
+    const uint8_t *row = t->next;
+    for (size_t a = 0; a < k; a++)
+        memset(pairs->predecessors[a], 0, n * sizeof pairs->predecessors[a][0]);
+    for (size_t p = 0; p < n; p++, row += k)
+        for (size_t a = 0; a < k; a++)
+            pairs->predecessors[a][row[a]] |= 1ull << p;
+}
+
+// The pairs at distance 0. Returns the rows that have one.
+static uint64_t begin(const struct table *t, const uint8_t *outputs, int test, square s, struct pairs *pairs)
+{
+    uint64_t rows = 0, all = ~0ull >> (STATES - t->n);
     memset(s, 255, t->n * sizeof s[0]);
-    for (int p = 0; p < t->n; p++)
+    memset(pairs->fresh[1], 0, t->n * sizeof pairs->fresh[1][0]);
+    for (int p = 0; p < t->n; p++) {
+        uint64_t apart = 0;
         for (int q = 0; q < t->n; q++)
-            if (outputs[p] != outputs[q])
+            if (passes(test, outputs[p], outputs[q])) {
                 s[p][q] = 0;
-    for (int r = 0; refine(t, s, r); r++)
-        ;
+                apart |= 1ull << q;
+            }
+        pairs->alike[p] = all & ~apart & ~(1ull << p);
+        pairs->fresh[0][p] = apart;
+        if (apart)
+            rows |= 1ull << p;
+    }
+    return rows;
+}
+
+// The states from which a symbol leads into a set that is not empty; these are the symbol's predecessors.
+static inline uint64_t leading_into(const uint64_t *predecessors, uint64_t set)
+{
+    uint64_t into = 0;
+    do
+        into |= predecessors[__builtin_ctzll(set)];
+    while (set &= set - 1);
+    return into;
+}
+
+// The round after r: from the fresh pairs, which are at r, to those at r + 1. The rows are those that have a fresh pair.
+// Returns the rows of the next round.
+static uint64_t spread(const struct table *t, square s, struct pairs *pairs, uint64_t rows, int r)
+{
+    size_t k = t->k;
+    uint64_t found = 0, *fresh = pairs->fresh[r & 1], *next = pairs->fresh[~r & 1];
+    for (; rows; rows &= rows - 1) {
+        int x = __builtin_ctzll(rows);
+        uint64_t front = fresh[x];
+        fresh[x] = 0;
+        for (size_t a = 0; a < k; a++)
+            for (uint64_t left = pairs->predecessors[a][x]; left; left &= left - 1) {
+                int p = __builtin_ctzll(left);
+                uint64_t alike = pairs->alike[p];
+                if (alike == 0)
+                    continue;
+                uint64_t new = alike & leading_into(pairs->predecessors[a], front);
+                if (new == 0)
+                    continue;
+                pairs->alike[p] = alike & ~new;
+                next[p] |= new;
+                found |= 1ull << p;
+                for (; new; new &= new - 1)
+                    s[p][__builtin_ctzll(new)] = r + 1;
+            }
+    }
+    return found;
+}
+
+// Round by round until no pair is fresh: each pair is fresh once.
+static void distances(const struct table *t, const uint8_t *outputs, int test, square s)
+{
+    struct pairs pairs;
+    find_predecessors(t, &pairs);
+    uint64_t rows = begin(t, outputs, test, s, &pairs);
+    for (int r = 0; rows; r++)
+        rows = spread(t, s, &pairs, rows, r);
 }
 
 // ---- fault steps and totals
@@ -211,7 +277,8 @@ static enum finding examine_set(const struct table *t, const uint8_t *outputs, s
     return VULNERABLE;
 }
 
-enum finding examine(const struct table *t, int set, int reading, uint8_t *area, int room, struct witness *w)
+// The first witness by this test.
+static enum finding first_witness(const struct table *t, int set, int reading, int test, uint8_t *area, int room, struct witness *w)
 {
     uint8_t outputs[STATES];
     square s;
@@ -219,17 +286,27 @@ enum finding examine(const struct table *t, int set, int reading, uint8_t *area,
         memcpy(outputs, t->marks, t->n);
     else
         write_classes(t, outputs);
-    distances(t, outputs, s);
+    distances(t, outputs, test, s);
     return examine_set(t, outputs, s, set, area, room, w);
+}
+
+enum finding examine(const struct table *t, int set, int reading, uint8_t *area, int room, struct witness *w)
+{
+    return first_witness(t, set, reading, DIFFER, area, room, w);
+}
+
+enum finding believe(const struct table *t, int set, int reading, int verdict, uint8_t *area, int room, struct witness *w)
+{
+    return first_witness(t, set, reading, verdict, area, room, w);
 }
 
 struct card card_of(const struct table *t)
 {
     struct card card = {.monitorability = monitorability(t)};
-    uint8_t area[STATES * STATES + STATES + 2];
+    uint8_t area[WITNESS];
     struct witness w;
     square s;
-    distances(t, t->marks, s);
+    distances(t, t->marks, DIFFER, s);
     for (int i = 0; i < 4; i++)
         if (examine_set(t, t->marks, s, 1 << i, area, sizeof area, &w) == VULNERABLE)
             card.distance[i] = w.distance;

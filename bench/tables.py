@@ -1,10 +1,17 @@
 """The tables that are measured, by a fixed seed, and the inputs of the programs."""
 import itertools
+import pathlib
 import random
+import sys
+
+sys.path.append(str(pathlib.Path(__file__).resolve().parent.parent / "tests"))
+import rings
 
 LIMIT = 65536
 TRACE = 250000
 QUESTIONS = list(itertools.product((3, 6), (1, 2, 4, 8, 15)))
+# What `ask` is asked of the ring tables, under repeat; the reading is put in. With an area of 0 it is refused once the distance is known.
+RING_QUESTIONS = {"trust": "trust 4 {} 1 5000", "trust, area 0": "trust 4 {} 1 0", "fault question": "fault 4 {} 5000"}
 
 
 def body(k, start, marks, rows):
@@ -69,6 +76,13 @@ def traces():
         table = body(k, 0, [0] * (n - 1) + [1], rows)
         yield f"{name}, never", table, [m + b"\0" for m in messages]
         yield f"{name}, true at the last", table, [m + bytes([k - 1]) for m in messages]
+
+
+def ring_tables():
+    """The tables of tests/rings.py of 25 and of 61 states: (name, table)."""
+    for one, two in ((10, 12), (28, 30)):
+        start, marks, rows = rings.rings(one, two)
+        yield f"rings of {one} and {two}, n = {len(marks)}, k = 4", body(4, start, marks, rows)
 
 
 def collection(bodies):

@@ -1,4 +1,5 @@
--- Which verdicts can be believed (02, note 3) as one claim about an accepted table, a fault set, a reading and a verdict.
+-- Which verdicts can be believed (02, note 3) as one claim about an accepted table, a fault set, a reading and a
+-- verdict.
 use mathlib.Core.Path.{_≡_}
 use mathlib.Core.List.{List, []}
 use mathlib.Core.Logic.{_↔_}
@@ -15,8 +16,8 @@ use Rattle.immunity.specs.Findings.{faultAnswer}
 use Rattle.trust.specs.Trust.{trustAnswer, trustTrace}
 use Rattle.demands.specs.DemandTwo.{Askable}
 
--- what the values of an answer and the bytes written with it say: yes, and the verdict is trusted; or the figures and the
--- sent trace of the first witness against it
+-- what the values of an answer and the bytes written with it say: yes, and the verdict is trusted; or the figures and
+-- the sent trace of the first witness against it
 pub data Believed (m : Monitor) (d set v : ℕ) : FaultFigures → List ℕ → Type 0 where
   yes : Trusted m d set v → Believed m d set v none []
   no : (s : Series) → FirstMisreading m d set v s

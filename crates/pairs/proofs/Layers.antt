@@ -27,7 +27,9 @@ module _ (g : Automaton) (ends : ℕ → ℕ → Bool) where
   told-step r p q = refl
 
   told-by : (r p q a : ℕ) → a < g .symbols → told g ends r (g .next p a) (g .next q a) ≡ true → told g ends (suc r) p q ≡ true
-  told-by r p q a la t = told-step r p q ∙ or-right (told g ends r p q) (any (g .symbols) (onward g ends r p q)) (any-at (g .symbols) (onward g ends r p q) a la t)
+  told-by r p q a la t =
+      told-step r p q
+      ∙ or-right (told g ends r p q) (any (g .symbols) (onward g ends r p q)) (any-at (g .symbols) (onward g ends r p q) a la t)
 
   -- no state is told apart from itself
   told-self : Closed g → ((p : ℕ) → p < g .states → ends p p ≡ false) → (r p : ℕ) → p < g .states → told g ends r p p ≡ false
@@ -80,7 +82,8 @@ module _ {g : Automaton} {ends : ℕ → ℕ → Bool} {predecessors : List ℕ}
   alike-says q t =
       let x = sym (M .kept .alike-is p q lp) ∙ t in
       let y = and-left (ltb q n && not (eqb q p)) (eqb (entry square p q) never) x in
-      (ltb-true q n (and-left (ltb q n) (not (eqb q p)) y), eqb-true (entry square p q) never (and-right (ltb q n && not (eqb q p)) (eqb (entry square p q) never) x))
+      let z = and-right (ltb q n && not (eqb q p)) (eqb (entry square p q) never) x in
+      (ltb-true q n (and-left (ltb q n) (not (eqb q p)) y), eqb-true (entry square p q) never z)
 
   module _ (square′ : List ℕ) where
     -- what is done is done, and p with a as well
@@ -269,7 +272,8 @@ module _ {g : Automaton} {ends : ℕ → ℕ → Bool} {predecessors : List ℕ}
 put-as : {before after : List ℕ} {p : ℕ} (f h : ℕ → Bool) → Put before p f after → ((q : ℕ) → f q ≡ h q) → Put before p h after
 put-as f h P e = record { size = P .size; here = λ q. P .here q ∙ e q; elsewhere = P .elsewhere }
 
-module _ {g : Automaton} {p a r : ℕ} (fits : r + 1 < never) (lp : p < g .states) (la : a < g .symbols) {front : ℕ → Bool} {sets square alike next : List ℕ} {rows : ℕ → Bool} where
+module _ {g : Automaton} {p a r : ℕ} (fits : r + 1 < never) (lp : p < g .states) (la : a < g .symbols) {front : ℕ → Bool}
+    {sets square alike next : List ℕ} {rows : ℕ → Bool} where
   -- no state is alike to p
   pub row-nothing : ((q : ℕ) → q < stateLimit → setAt alike p q ≡ false)
       → GoesAt g r (g .next p a) front (rowDone p a) sets square alike next rows square alike next rows
@@ -349,7 +353,8 @@ module _ {g : Automaton} {ends : ℕ → ℕ → Bool} {r : ℕ} {square alike f
       go y ly l false h zero ez = absurd (eqb-false (entry square x y) r h (omega (arith, l, ez)))
       go y ly l false h (suc s) ez =
           let ne = eqb-false (entry square x y) r h in
-          let below : entry square x y ≤ s = ⊎-elim (λ k. omega (arith, k)) (λ k. absurd (ne (omega (arith, k, l, ez)))) (lt-or-le (entry square x y) (suc s)) in
+          let e = entry square x y in
+          let below : e ≤ s = ⊎-elim (λ k. omega (arith, k)) (λ k. absurd (ne (omega (arith, k, l, ez)))) (lt-or-le e (suc s)) in
           inr (s, ez, L .stage x y lx ly .agrees s (omega (arith, ez)) ∙ le-leb (entry square x y) s below)
 
   -- the round is over when each row with each symbol that leads to a row with a fresh pair is done

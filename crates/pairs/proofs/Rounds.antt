@@ -65,7 +65,8 @@ abbrev pub butLeft : (ℕ → Bool) → (ℕ → ℕ → Bool) → ℕ → ℕ �
 butLeft left more p b = more p b && not (left p)
 
 -- a row that is left leads to x
-row-leads : (g : Automaton) (x a : ℕ) {ends : ℕ → ℕ → Bool} {sets : List ℕ} (left : ℕ → Bool) → ((q : ℕ) → left q ≡ true → setAt sets (x * symbolLimit + a) q ≡ true)
+row-leads : (g : Automaton) (x a : ℕ) {ends : ℕ → ℕ → Bool} {sets : List ℕ} (left : ℕ → Bool)
+    → ((q : ℕ) → left q ≡ true → setAt sets (x * symbolLimit + a) q ≡ true)
     → (y : ℕ) → left y ≡ true → x < stateLimit → a < g .symbols → Ground g ends sets → (y < g .states) × (g .next y a ≡ x)
 row-leads g x a left inside y h lx la G =
     let k = sym (G .preceding .at x a y lx la) ∙ inside y h in (
@@ -85,7 +86,8 @@ module _ (g : Automaton) (x a : ℕ) {r : ℕ} {front : ℕ → Bool} {sets squa
         let k = lost (symbolDone g x a p b) (left p) h in
         let ex = and-left (eqb (g .next p b) x) (eqb b a) (k .0) in
         let eb = eqb-true b a (and-right (eqb (g .next p b) x) (eqb b a) (k .0)) in
-        absurd (clash (is p ∙ G .preceding .at x a p lx la ∙ and-both (ltb p (g .states)) (eqb (g .next p a) x) (lt-ltb p (g .states) lp) (rw (← eb) ex)) (k .1)))
+        let leads = and-both (ltb p (g .states)) (eqb (g .next p a) x) (lt-ltb p (g .states) lp) (rw (← eb) ex) in
+        absurd (clash (is p ∙ G .preceding .at x a p lx la ∙ leads) (k .1)))
         (or-cases (done p b) (butLeft left (symbolDone g x a) p b) t));
   }
 

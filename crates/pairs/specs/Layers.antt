@@ -1,5 +1,5 @@
--- How the search goes from the pairs at distance r to those at r + 1, through the predecessors of their states: what its
--- functions require of each other.
+-- How the search goes from the pairs at distance r to those at r + 1, through the predecessors of their states: what
+-- its functions require of each other.
 use mathlib.Core.Path.{_≡_}
 use mathlib.Core.Bool.{Bool, true, false, cond, not, _&&_, _||_}
 use mathlib.Core.List.{List}
@@ -64,8 +64,8 @@ pub record Ground (g : Automaton) (ends : ℕ → ℕ → Bool) (predecessors : 
   pub self : (p : ℕ) → p < g .states → ends p p ≡ false
   pub preceding : Preceding g (λ p a. ltb p (g .states)) predecessors
 
--- the sets agree with the square in the rows below `upto`: the alike states of a row are not told apart from it, the fresh
--- ones are at d, and `rows` are the rows that have a fresh one
+-- the sets agree with the square in the rows below `upto`: the states alike to a row are the others that are not told
+-- apart from it, the fresh ones are at d, and `rows` are the rows that have a fresh one
 pub record Kept (n d upto : ℕ) (square alike fresh : List ℕ) (rows : ℕ → Bool) : Type 0 where
   pub size : length square ≡ squareSize
   pub alike-size : length alike ≡ stateLimit

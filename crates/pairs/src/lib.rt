@@ -174,8 +174,8 @@ fn enter(square: &mut [u16; SQUARE_SIZE], p: usize, set: StateSet, d: u16)
     }
 }
 
-// Adds to row p the alike states that a leads into the front: the pair of p's successor and any state of the front is at
-// r. Returns the rows that have a pair at r + 1, beside those given.
+// Adds to row p the states alike to p that a leads into the front: p's successor and any state of the front are at r.
+// Returns the rows that have a pair at r + 1, beside those given.
 fn spread_row(
     square: &mut [u16; SQUARE_SIZE],
     alike: &mut [u64; STATE_LIMIT],
@@ -338,7 +338,7 @@ fn all_below(n: usize) -> StateSet
     set
 }
 
-// Row p before the first round: the states told apart from p at once, and those that are alike, p itself left out.
+// Row p before the first round: the states told apart from p at once, and those that are alike to p, p itself left out.
 // Returns the rows that have a pair at 0, beside those given.
 fn begin_row(
     square: &mut [u16; SQUARE_SIZE],

@@ -126,7 +126,8 @@ module _ {limit : ℕ} {m : Monitor} (w : WellFormed limit m) where
   pub all-trusted : (d set : ℕ) → (d ≡ 3) ⊎ (d ≡ 6) → Immune m d set ↔ ((v : ℕ) → v < d → Trusted m d set v)
   all-trusted d set k = (
     λ im v l x y f e.
-        ⊎-elim (λ (alike : reads m d x ≡ reads m d y). alike ∙ e) (λ h. absurd (im x (record { received = y; fault = f; differs = h }))) (alike-or-differ m d x y),
+        ⊎-elim (λ (same : reads m d x ≡ reads m d y). same ∙ e) (λ h. absurd (im x (record { received = y; fault = f; differs = h })))
+        (alike-or-differ m d x y),
     λ all x h.
         let y = h .received in
         let g = m .automaton in

@@ -1,5 +1,5 @@
--- Which verdicts can be believed when they are received (02, note 3; document 000, definition 15): by table, set, reading
--- and verdict, and by nothing that a search notes down.
+-- Which verdicts can be believed when they are received (02, note 3; document 000, definition 15): by table, set,
+-- reading and verdict, and by nothing that a search notes down.
 use mathlib.Core.Path.{_≡_}
 use mathlib.Core.List.{List}
 use mathlib.Core.Logic.{_⊎_}

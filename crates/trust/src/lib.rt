@@ -28,9 +28,9 @@ fn trust_of(found: Outcome) -> Trust
     }
 }
 
-// The question of trust: whether, after one fault of the set, a received trace that reads the verdict means that the sent
-// one reads it too, by marks (domain 3) or by classes (domain 6). The sent trace of a witness goes into the area, which
-// is otherwise left as it was.
+// The question of trust: whether, after one fault of the set, a received trace that reads the verdict means that the
+// sent one reads it too, by marks (domain 3) or by classes (domain 6). The sent trace of a witness goes into the area,
+// which is otherwise left as it was.
 pub fn believe(body: &[u8], set: usize, domain: usize, verdict: usize, area: &mut [u8]) -> Trust
     ensures figures { λ r. ⌜ trust r
         ≡ trustAnswer stateLimit (now (body .entry)) set domain verdict (length (now (area .entry))) ⌝ }

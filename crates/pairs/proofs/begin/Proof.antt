@@ -22,8 +22,9 @@ loop-holds c = (search needs, begun-rows (c .before .before .before .pre .1) (c 
 
 begin-row-requires : tie.Need-begin-row-requires Inv-loop μ-loop
 begin-row-requires c κs =
-    let s = c .before .before .before .before .before .before .before .before in
-    (s .pre .0, c .before .before .before .loop-test .taken, c .before .before .before .before .before .before .all-below .ensures, c .before .before .before .before .loop .inv .1)
+    let c₅ = c .before .before .before .before .before in
+    let s = c₅ .before .before .before in
+    (s .pre .0, c .before .before .before .loop-test .taken, c₅ .before .all-below .ensures, c .before .before .before .before .loop .inv .1)
 
 loop-again : tie.Need-loop-again Inv-loop μ-loop
 loop-again c = (search needs, c .begin-row .ensures)

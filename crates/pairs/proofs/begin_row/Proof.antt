@@ -10,28 +10,32 @@ use Rattle.pairs.proofs.begin_row.Tie as tie
 
 returns : tie.Need-returns
 returns c =
-    let p = c .before .before .before .before .before .before .before .before .before .before .before .before .pre in
-    let low = c .before .before .before .before .before .before .before .before .before .before .before .before .pre .1 in
+    let c₅ = c .before .before .before .before .before in
+    let c₁₀ = c₅ .before .before .before .before .before in
+    let p = c₁₀ .before .before .pre in
+    let low = c₁₀ .before .before .pre .1 in
     let k = p .3 .kept in
-    let out = c .before .before .before .before .before .before .before .without in
-    let minus = c .before .before .before .before .before .before .before .before .minus .ensures in
-    begun-quiet (p .0) (p .1) (p .3) (c .before .before .before .before .before .before .before .before .before .before .passing-with .ensures) (member (out .result))
+    let out = c₅ .before .before .without in
+    let minus = c₅ .before .before .before .minus .ensures in
+    begun-quiet (p .0) (p .1) (p .3) (c₁₀ .passing-with .ensures) (member (out .result))
     (λ q. out .ensures q ∙ rw (minus q, p .2 q))
-    (c .before .before .before .before .before .before .put .ensures (omega (arith, p .0, p .1, k .alike-size)))
+    (c₅ .before .put .ensures (omega (arith, p .0, p .1, k .alike-size)))
     (c .before .before .before .before .put2 .ensures (omega (arith, p .0, p .1, k .fresh-size)))
     (c .before .before .enter .ensures (k .size))
     (empty-none _ (c .before .is-empty .ensures) (c .if1 .taken))
 
 returns-2 : tie.Need-returns-2
 returns-2 c =
-    let p = c .before .before .before .before .before .before .before .before .before .before .before .before .before .pre in
+    let c₅ = c .before .before .before .before .before in
+    let c₁₀ = c₅ .before .before .before .before .before in
+    let p = c₁₀ .before .before .before .pre in
     let k = p .3 .kept in
-    let out = c .before .before .before .before .before .before .before .before .without in
-    let minus = c .before .before .before .before .before .before .before .before .before .minus .ensures in
-    begun-row (p .0) (p .1) (p .3) (c .before .before .before .before .before .before .before .before .before .before .before .passing-with .ensures) (member (out .result))
+    let out = c₅ .before .before .before .without in
+    let minus = c₅ .before .before .before .before .minus .ensures in
+    begun-row (p .0) (p .1) (p .3) (c₁₀ .before .passing-with .ensures) (member (out .result))
     (λ q. out .ensures q ∙ rw (minus q, p .2 q))
-    (c .before .before .before .before .before .before .before .put .ensures (omega (arith, p .0, p .1, k .alike-size)))
-    (c .before .before .before .before .before .put2 .ensures (omega (arith, p .0, p .1, k .fresh-size)))
+    (c₅ .before .before .put .ensures (omega (arith, p .0, p .1, k .alike-size)))
+    (c₅ .put2 .ensures (omega (arith, p .0, p .1, k .fresh-size)))
     (c .before .before .before .enter .ensures (k .size))
     (empty-some _ (c .before .before .is-empty .ensures) (c .before .if1 .left)) (c .with .ensures)
 

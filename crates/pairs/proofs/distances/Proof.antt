@@ -38,10 +38,16 @@ begin-requires c κs =
 
 loop-holds : tie.Need-loop-holds Inv-loop μ-loop
 loop-holds c =
-    let p = c .before .before .before .before .before .before .before .pre in
+    let c₅ = c .before .before .before .before .before in
+    let p = c₅ .before .before .pre in
     let b = c .begin .ensures in (
       search needs,
-      record { small = p .0 .states-most; closed = next-of-rows (p .0); self = begun-self (p .1) b; preceding = c .before .before .before .before .predecessors .ensures },
+      record {
+        small = p .0 .states-most;
+        closed = next-of-rows (p .0);
+        self = begun-self (p .1) b;
+        preceding = c .before .before .before .before .predecessors .ensures;
+      },
       begun-layer (p .1) b,
       empty-sets (p .0 .states-most),
     )
@@ -57,33 +63,52 @@ spread-requires c κs =
 
 add-spread : tie.Need-add-spread Inv-loop μ-loop
 add-spread c =
-    let rows = c .before .before .before .before .before .before .before .before .before .before .before .before .before .before .before .before .before .before .before .before .before .pre .0 in
-    let l = few _ (rows .states-most) (c .before .before .before .before .before .before .before .before .before .before .before .before .before .loop .inv .0) in
+    let c₅ = c .before .before .before .before .before in
+    let c₁₀ = c₅ .before .before .before .before .before in
+    let c₁₅ = c₁₀ .before .before .before .before .before in
+    let c₂₀ = c₁₅ .before .before .before .before .before in
+    let rows = c₂₀ .before .pre .0 in
+    let l = few _ (rows .states-most) (c₁₀ .before .before .before .loop .inv .0) in
     omega (arith, l)
 
 spread-requires-2 : tie.Need-spread-requires-2 Inv-loop μ-loop
 spread-requires-2 c κs =
-    let rows = c .before .before .before .before .before .before .before .before .before .before .before .before .before .before .before .before .before .before .before .before .before .pre .0 in
-    let l = few _ (rows .states-most) (c .before .before .before .before .before .before .before .before .before .before .before .before .before .loop .inv .0) in
+    let c₅ = c .before .before .before .before .before in
+    let c₁₀ = c₅ .before .before .before .before .before in
+    let c₁₅ = c₁₀ .before .before .before .before .before in
+    let c₂₀ = c₁₅ .before .before .before .before .before in
+    let rows = c₂₀ .before .pre .0 in
+    let l = few _ (rows .states-most) (c₁₀ .before .before .before .loop .inv .0) in
     (rows .symbols-most, omega (arith, l))
 
 add-r : tie.Need-add-r Inv-loop μ-loop
 add-r c =
-    let rows = c .before .before .before .before .before .before .before .before .before .before .before .before .before .before .before .before .before .before .before .before .before .before .pre .0 in
-    let l = few _ (rows .states-most) (c .before .before .before .before .before .before .before .before .before .before .before .before .before .before .loop .inv .0) in
+    let c₅ = c .before .before .before .before .before in
+    let c₁₀ = c₅ .before .before .before .before .before in
+    let c₁₅ = c₁₀ .before .before .before .before .before in
+    let c₂₀ = c₁₅ .before .before .before .before .before in
+    let rows = c₂₀ .before .before .pre .0 in
+    let l = few _ (rows .states-most) (c₁₀ .before .before .before .before .loop .inv .0) in
     omega (arith, l)
 
 loop-less : tie.Need-loop-less Inv-loop μ-loop
-loop-less c = (let l = c .before .before .before .before .before .before .before .before .before .before .before .before .before .before .loop .inv .0 in omega (arith, l))
+loop-less c =
+    let c₅ = c .before .before .before .before .before in
+    let c₁₀ = c₅ .before .before .before .before .before in
+    (let l = c₁₀ .before .before .before .before .loop .inv .0 in omega (arith, l))
 
 loop-again : tie.Need-loop-again Inv-loop μ-loop
 loop-again c =
-    let s = c .before .before .before .before .before .before .before .before .before .before .before .before .before .before .before .before .before .before .before .before .before .before in
-    let at = c .before .before .before .before .before .before .before .before .before .before .before .before .before .before .loop in
-    let fresh = empty-some _ (c .before .before .before .before .before .before .before .before .before .before .before .before .before .is-empty .ensures) (not-true _ (c .before .before .before .before .before .before .before .before .before .before .before .before .if1 .taken)) in
+    let c₅ = c .before .before .before .before .before in
+    let c₁₀ = c₅ .before .before .before .before .before in
+    let c₁₅ = c₁₀ .before .before .before .before .before in
+    let c₂₀ = c₁₅ .before .before .before .before .before in
+    let s = c₂₀ .before .before in
+    let at = c₁₀ .before .before .before .before .loop in
+    let fresh = empty-some _ (c₁₀ .before .before .before .is-empty .ensures) (not-true _ (c₁₀ .before .before .if1 .taken)) in
     let early = layer-early (at .inv .2) (at .inv .1 .closed) (fresh .0) (fresh .2) in
     let g = automatonOf (s .args .n) (s .args .k) (s .args .nexts .now) in
-    let once = c .before .before .before .before .before .before .spread .ensures g _ refl (at .inv .1) (at .inv .3) (at .inv .2) in
+    let once = c₅ .before .spread .ensures g _ refl (at .inv .1) (at .inv .3) (at .inv .2) in
     let twice = c .spread2 .ensures g _ refl (at .inv .1) (once .1) (rw (add-one (at .r)) (once .0)) in
     let two : suc (at .r + 1) ≡ at .r + 2 = omega arith in
     (omega (arith, early), at .inv .1, rw two at (twice .0), twice .1)

@@ -21,9 +21,10 @@ loop-holds c = (search needs, c .before .pre .2)
 
 loop-again : tie.Need-loop-again Inv-loop μ-loop
 loop-again c =
-    let s = c .before .before .before .before .before .before .before .before in
-    let at = c .before .before .before .before .before .before .loop in
-    let la = c .before .before .before .before .before .loop-test .taken in
+    let c₅ = c .before .before .before .before .before in
+    let s = c₅ .before .before .before in
+    let at = c₅ .before .loop in
+    let la = c₅ .loop-test .taken in
     let x = c .before .before .before .before .successor in
     let rows = s .pre .0 in
     let lx : x .result < stateLimit = omega (arith, x .ensures .1, rows .states-most) in
@@ -31,7 +32,8 @@ loop-again c =
     let size = at .inv .1 .size in (
       search needs,
       preceding-more few lx la (omega (arith, s .pre .1, rows .states-most)) (x .ensures .0) (at .inv .1)
-          (stored-set (at .sets) _ _ (λ q. c .word .ensures q ∙ c .before .with .ensures q ∙ rw (c .before .before .of .ensures q)) (omega (arith, lx, la, few, size))),
+          (stored-set (at .sets) _ _ (λ q. c .word .ensures q ∙ c .before .with .ensures q ∙ rw (c .before .before .of .ensures q))
+          (omega (arith, lx, la, few, size))),
     )
 
 returns : tie.Need-returns Inv-loop μ-loop

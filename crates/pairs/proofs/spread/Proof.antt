@@ -30,16 +30,21 @@ returns : tie.Need-returns Inv-loop μ-loop
 returns c = λ g ends e G N L. spreading-ends G L (c .before .before .loop .inv g ends e G N L) (c .before .lowest .ensures) (c .if1 .taken)
 
 loop-less : tie.Need-loop-less Inv-loop μ-loop
-loop-less c = lowest-less _ _ (c .before .before .before .before .before .before .before .before .before .before .before .lowest .ensures) (omega (arith, c .before .before .before .before .before .before .before .before .before .before .if1 .left)) (c .without .ensures)
+loop-less c =
+    let c₅ = c .before .before .before .before .before in
+    let c₁₀ = c₅ .before .before .before .before .before in
+    lowest-less _ _ (c₁₀ .before .lowest .ensures) (omega (arith, c₁₀ .if1 .left)) (c .without .ensures)
 
 loop-again : tie.Need-loop-again Inv-loop μ-loop
 loop-again c =
-    let at = c .before .before .before .before .before .before .before .before .before .before .before .before .loop in
-    let low = c .before .before .before .before .before .before .before .before .before .before .before .lowest .ensures in
-    let small = c .before .before .before .before .before .before .before .before .before .before .if1 .left in
+    let c₅ = c .before .before .before .before .before in
+    let c₁₀ = c₅ .before .before .before .before .before in
+    let at = c₁₀ .before .before .loop in
+    let low = c₁₀ .before .lowest .ensures in
+    let small = c₁₀ .if1 .left in
     λ g ends e G N L.
-    spreading-more G L (at .inv g ends e G N L) low (omega (arith, small)) e (c .before .before .before .before .before .before .before .before .set-of .ensures) (c .before .before .before .before .before .before .empty2 .ensures)
-    (c .before .before .before .before .before .put .ensures) (c .before .spread-state .ensures g e) (c .without .ensures)
+    spreading-more G L (at .inv g ends e G N L) low (omega (arith, small)) e (c₅ .before .before .before .set-of .ensures) (c₅ .before .empty2 .ensures)
+    (c₅ .put .ensures) (c .before .spread-state .ensures g e) (c .without .ensures)
 
 pub spread-spec : {M : Type 1} → statement M
 spread-spec =

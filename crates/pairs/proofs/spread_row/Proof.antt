@@ -25,16 +25,19 @@ returns-2 c =
 
 returns-3 : tie.Need-returns-3
 returns-3 c =
-    let s = c .before .before .before .before .before .before .before .before .before .before .before .before .before .before .before .before .before .before .before in
-    let e = c .before .before .before .before .before .before .before .before .before .before .before .before .is-empty2 .ensures in
-    let here = c .before .before .before .before .before .before .before .before .before .before .before .before .before .before .before .before .before .set-of .ensures in
-    let new = c .before .before .before .before .before .before .before .before .before .before .before .before .before .intersection .ensures in
-    let into = c .before .before .before .before .before .before .before .before .before .before .before .before .before .before .leading-into .ensures in
-    let out = c .before .before .before .before .before .before .before .before .before .minus .ensures in
+    let c₅ = c .before .before .before .before .before in
+    let c₁₀ = c₅ .before .before .before .before .before in
+    let c₁₅ = c₁₀ .before .before .before .before .before in
+    let s = c₁₅ .before .before .before .before in
+    let e = c₁₀ .before .before .is-empty2 .ensures in
+    let here = c₁₅ .before .before .set-of .ensures in
+    let new = c₁₀ .before .before .before .intersection .ensures in
+    let into = c₁₀ .before .before .before .before .leading-into .ensures in
+    let out = c₅ .before .before .before .before .minus .ensures in
     let more = c .before .before .before .before .union .ensures in
-    let next = c .before .before .before .before .before .set-of2 .ensures in
-    λ g lp la. row-new (s .pre .2) lp la (λ small closed P. into g small la P closed) (λ q. new q ∙ rw (here q)) (empty-some _ e (c .before .before .before .before .before .before .before .before .before .before .before .if2 .left))
-    (c .before .enter .ensures) (c .before .before .before .before .before .before .before .before .put .ensures) (λ q. out q ∙ rw (here q)) (c .before .before .before .put2 .ensures)
+    let next = c₅ .set-of2 .ensures in
+    λ g lp la. row-new (s .pre .2) lp la (λ small closed P. into g small la P closed) (λ q. new q ∙ rw (here q)) (empty-some _ e (c₁₀ .before .if2 .left))
+    (c .before .enter .ensures) (c₅ .before .before .before .put .ensures) (λ q. out q ∙ rw (here q)) (c .before .before .before .put2 .ensures)
     (λ q. more q ∙ rw (next q)) (c .with .ensures)
 
 pub spread-row-spec : {M : Type 1} → statement M

@@ -35,7 +35,9 @@ returns c =
     λ g la. symbol-ends g (a .x) (a .a) _ (c .before .lowest .ensures) (c .if1 .taken) (c .before .before .loop .inv .1 g la)
 
 loop-less : tie.Need-loop-less Inv-loop μ-loop
-loop-less c = lowest-less _ _ (c .before .before .before .before .before .before .lowest .ensures) (omega (arith, c .before .before .before .before .before .if1 .left)) (c .without .ensures)
+loop-less c =
+    let c₅ = c .before .before .before .before .before in
+    lowest-less _ _ (c₅ .before .lowest .ensures) (omega (arith, c₅ .if1 .left)) (c .without .ensures)
 
 loop-again : tie.Need-loop-again Inv-loop μ-loop
 loop-again c =

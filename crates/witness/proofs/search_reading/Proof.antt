@@ -18,24 +18,29 @@ distances-requires c κs =
 
 find-first-requires : tie.Need-find-first-requires
 find-first-requires c κs =
-    let s = c .before .before .before .before .before .before .before .before .before .before in
+    let c₅ = c .before .before .before .before .before in
+    let c₁₀ = c₅ .before .before .before .before .before in
+    let s = c₁₀ in
     let p = s .pre in (
       p,
-      table-posed p (p .rows) (s .args .test) (sym (filled-count _ _ _ (c .before .before .before .before .before .write-readings .ensures))) (c .before .before .distances .ensures),
+      table-posed p (p .rows) (s .args .test) (sym (filled-count _ _ _ (c₅ .write-readings .ensures))) (c .before .before .distances .ensures),
     )
 
 returns : tie.Need-returns
 returns c =
-    let s = c .before .before .before .before .before .before .before .before .before .before .before .before .before in
+    let c₅ = c .before .before .before .before .before in
+    let c₁₀ = c₅ .before .before .before .before .before in
+    let s = c₁₀ .before .before .before in
     let a = s .args in
-    let w = c .before .before .before .before .before .before .before .before .write-readings in
+    let w = c₅ .before .before .before .write-readings in
     let m = monitorIn (a .t) (a .marks) (a .nexts) in
     let outs = take (a .t .states) (w .last .1 .1 .1 .1 .0) in
     let read = filled-read (a .t .states) (reading m (a .domain)) _ (w .ensures) in
-    let square = c .before .before .before .before .before .distances in
+    let square = c₅ .distances in
     let e = c .before .before .find-first .ensures in (
       table-answer (s .pre) (a .test) (a .domain) (a .set .bits) outs (square .result) read (square .ensures) (length (a .area .now)) (e .0),
-      table-area (s .pre) (a .test) (a .domain) (a .set .bits) outs (square .result) read (square .ensures) (outcome (c .before .before .find-first .result)) (a .area .now) (e .1),
+      table-area (s .pre) (a .test) (a .domain) (a .set .bits) outs (square .result) read (square .ensures)
+          (outcome (c .before .before .find-first .result)) (a .area .now) (e .1),
     )
 
 pub search-reading-spec : {M : Type 1} → statement M
