@@ -93,8 +93,17 @@ def fault_questions(b):
             yield [5, 0, 0, 0] + b, card(b, first)
 
 
+def check_immunity(b):
+    """A fault has a witness exactly if it has one against some verdict."""
+    for d in READINGS:
+        against = [set(first_series(b, d, horizon(b), misread(verdict))) for verdict in range(d)]
+        assert set(first_series(b, d, horizon(b), differ)) == set().union(*against), b
+
+
 def trust_questions(b):
     """Each reading, verdict and set, but for those of which a witness could only be beyond the horizon."""
+    if horizon(b) == b[0] ** 2:
+        check_immunity(b)
     for d, verdict in ((d, verdict) for d in READINGS for verdict in range(d)):
         first = first_series(b, d, horizon(b), misread(verdict))
         for faults in range(16):

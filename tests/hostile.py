@@ -183,8 +183,28 @@ def pack_expected(words):
         return "", f"pack: refused {no.number} {no.place}{named}: {REASONS[str(no.number)]}\n"
 
 
+BELIEVE = "    believe:      "
+
+
+def believe_lines(data):
+    """The lines of cards that say which marks can be believed: four for each accepted body."""
+    lines = []
+    for _, body in reference.read_collection(data):
+        try:
+            reference.read_table(body)
+        except Refused:
+            continue
+        for faults in (1, 2, 4, 8):
+            said = ["no" if reference.trust(body, faults, 3, mark, 5000) else "yes" for mark in (1, 2, 0)]
+            lines.append(BELIEVE + "true {}, false {}, not yet {}\n".format(*said))
+    return "".join(lines)
+
+
 def expected(program, words, data):
-    """What the program must write to standard output and to standard error. The usage is told by its beginning."""
+    """What the program must write to standard output and to standard error, of a card the believe lines alone. The usage
+    is told by its beginning."""
+    if program == "card":
+        return believe_lines(data), ""
     if program == "listing":
         return reference.listing(data), ""
     if program == "pack":
@@ -218,6 +238,8 @@ def compare(case):
     program, words, data = case
     wanted, wanted_error = expected(program, words, data)
     out, err = run(program, words, data)
+    if program == "card":
+        out = "".join(line for line in out.splitlines(True) if line.startswith(BELIEVE))
     if wanted_error.startswith("usage: "):
         told = err.startswith(wanted_error) and err.endswith("\n") and err.count("\n") == 1
     else:
@@ -251,7 +273,7 @@ def differing_entry(data, wanted, came):
 
 
 def main():
-    for program in ("ask", "listing", "pack"):
+    for program in ("ask", "card", "listing", "pack"):
         if not os.access(os.path.join(PROGRAMS, program), os.X_OK):
             sys.exit(f"hostile: {os.path.join(PROGRAMS, program)} is missing")
     total = 0

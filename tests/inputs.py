@@ -312,11 +312,11 @@ def numbers_around_limits(rng):
         for reading in readings:
             yield ask(body, "fault", rng.choice([15, 16]), reading, ROOM)
             yield ask(body, "trust", rng.choice([15, 16]), reading, rng.choice([0, reading]), ROOM)
+            yield ask(body, "step", reading, rng.choice([0, n]), rng.choice([0, k]))
+            yield ask(body, "trace", reading, *rng.choice([[], [0], [0, k]]))
         for verdict in list(range(9)) + [255] + WIDE:
             yield from (ask(body, "trust", rng.choice([1, 15]), reading, verdict, 0) for reading in (3, 6))
             yield ask(body, "trust", *rng.choice([(16, 3), (15, 5), (16, 6), (16, 5)]), verdict, 0)
-            yield ask(body, "step", reading, rng.choice([0, n]), rng.choice([0, k]))
-            yield ask(body, "trace", reading, *rng.choice([[], [0], [0, k]]))
         for state in states:
             yield from (ask(body, "step", reading, state, m) for reading in (3, 5, 6) for m in (0, k - 1, k))
         for message in messages:
@@ -679,9 +679,15 @@ def input_sizes(rng):
             yield ask(data, *rng.choice(forms))
 
 
+def believed_marks(rng):
+    """Cards: the specification's tables, rings, random small tables, and a body that is refused."""
+    bodies = NAMED + RINGS + [vulnerable_table(rng, rng.randint(2, 12), rng.randint(1, 4)) for _ in range(100)]
+    yield "card", [], collection(list(enumerate(bodies + [A[:-1]])))
+
+
 GROUPS = [named_tables, small_listings, listings_of_all_sizes, far_listings, witnesses_of_small_tables,
           witnesses_of_all_sizes, areas_for_witnesses, trusted_verdicts, trust_questions, trust_of_all_sizes,
-          far_misreadings, classes_of_tables, steps_and_traces, fallen_verdicts, traces_in_files, damaged_in_listings,
+          far_misreadings, believed_marks, classes_of_tables, steps_and_traces, fallen_verdicts, traces_in_files, damaged_in_listings,
           damaged_in_calls, lengths_and_counts, random_bytes, numbers_around_limits, leading_zeros, wrong_arguments,
           cut_collections, altered_collections, counts_and_numbers, gaps_and_overlaps, random_collections,
           rules_of_collections, bodies_of_rules, written_lists, unequal_lists, wrong_bodies, many_rules, wrong_lists,

@@ -10,11 +10,8 @@ use trust::Trust;
 use witness::WITNESS_ROOM;
 use witness::Witness;
 
-// The answer, and the class of each state. So many bytes are lent, but no more than the longest answer takes.
-fn classify(out: Output, body: &[u8], room: usize) -> Output {
-    let mut area = [0u8; WITNESS_ROOM];
-    let end = basics::least_of(room, WITNESS_ROOM);
-    let lent = &mut area[0..end];
+// The answer, and the class of each state.
+fn classify(out: Output, body: &[u8], lent: &mut [u8]) -> Output {
     let answer = classes::classify(body, lent);
     let answered = printing::classification(out, answer);
     let Classification::Classified { .. } = answer else {
@@ -30,11 +27,8 @@ fn sent_and_counts(out: Output, witness: Witness, area: &[u8]) -> Output {
     printing::counts(printing::bytes(out.text(b" sent"), sent), witness)
 }
 
-// The finding, and the sent trace of a witness. So many bytes are lent, but no more than the longest answer takes.
-fn examine(out: Output, body: &[u8], set: usize, domain: usize, room: usize) -> Output {
-    let mut area = [0u8; WITNESS_ROOM];
-    let end = basics::least_of(room, WITNESS_ROOM);
-    let lent = &mut area[0..end];
+// The finding, and the sent trace of a witness.
+fn examine(out: Output, body: &[u8], set: usize, domain: usize, lent: &mut [u8]) -> Output {
     let answer = immunity::examine(body, set, domain, lent);
     let answered = printing::finding(out, answer);
     let Finding::Vulnerable(witness) = answer else {
@@ -43,18 +37,15 @@ fn examine(out: Output, body: &[u8], set: usize, domain: usize, room: usize) -> 
     sent_and_counts(answered, witness, lent)
 }
 
-// The answer on a verdict, and the sent trace of a witness against it. So many bytes are lent likewise.
+// The answer on a verdict, and the sent trace of a witness against it.
 fn believe(
     out: Output,
     body: &[u8],
     set: usize,
     domain: usize,
     verdict: usize,
-    room: usize,
+    lent: &mut [u8],
 ) -> Output {
-    let mut area = [0u8; WITNESS_ROOM];
-    let end = basics::least_of(room, WITNESS_ROOM);
-    let lent = &mut area[0..end];
     let answer = trust::believe(body, set, domain, verdict, lent);
     let answered = printing::trusted(out, answer);
     let Trust::No(witness) = answer else {
@@ -63,11 +54,25 @@ fn believe(
     sent_and_counts(answered, witness, lent)
 }
 
+// How many bytes a form asks to be lent.
+fn room_of(form: Form) -> usize {
+    match form {
+        Form::Classes { room } => room,
+        Form::Fault { room, .. } => room,
+        Form::Trust { room, .. } => room,
+        _ => 0,
+    }
+}
+
+// The form asked of a body. No more bytes are lent than the longest answer takes.
 fn of_body(out: Output, form: Form, body: &[u8], messages: &[u8]) -> Output {
+    let mut area = [0u8; WITNESS_ROOM];
+    let end = basics::least_of(room_of(form), WITNESS_ROOM);
+    let lent = &mut area[0..end];
     match form {
         Form::Judge => printing::judgement(out, monitor::judge(body)),
         Form::Body => printing::bytes(out.text(b"body"), body),
-        Form::Classes { room } => classify(out, body, room),
+        Form::Classes { .. } => classify(out, body, lent),
         Form::Step {
             domain,
             state,
@@ -77,13 +82,13 @@ fn of_body(out: Output, form: Form, body: &[u8], messages: &[u8]) -> Output {
             out,
             readings::trace(body, domain, messages),
         ),
-        Form::Fault { set, domain, room } => examine(out, body, set, domain, room),
+        Form::Fault { set, domain, .. } => examine(out, body, set, domain, lent),
         Form::Trust {
             set,
             domain,
             verdict,
-            room,
-        } => believe(out, body, set, domain, verdict, room),
+            ..
+        } => believe(out, body, set, domain, verdict, lent),
     }
 }
 

@@ -198,12 +198,10 @@ enum Numbers {
     Unclear,
 }
 
-fn three_numbers(at: usize, behind: usize, space: &mut [u8]) -> Numbers
+// The three arguments from this one on.
+fn three_numbers(at: usize, space: &mut [u8]) -> Numbers
     requires { ⌜ at ≤ 4 ⌝ }
 {
-    if behind != 3 {
-        return Numbers::Unclear;
-    }
     let Decimal::Number(first) = arguments::number_at(at, space) else {
         return Numbers::Unclear;
     };
@@ -218,6 +216,16 @@ fn three_numbers(at: usize, behind: usize, space: &mut [u8]) -> Numbers
         second,
         third,
     }
+}
+
+// The same where they are the last.
+fn last_three(at: usize, behind: usize, space: &mut [u8]) -> Numbers
+    requires { ⌜ at ≤ 4 ⌝ }
+{
+    if behind != 3 {
+        return Numbers::Unclear;
+    }
+    three_numbers(at, space)
 }
 
 fn step_asked(subject: Subject, numbers: Numbers) -> Asked {
@@ -260,7 +268,7 @@ fn trust_asked(subject: Subject, at: usize, behind: usize, space: &mut [u8]) -> 
         first: set,
         second: domain,
         third: verdict,
-    } = three_numbers(at, 3, space)
+    } = three_numbers(at, space)
     else {
         return Asked::Unclear;
     };
@@ -283,9 +291,9 @@ fn form_asked(word: Word, subject: Subject, at: usize, behind: usize, space: &mu
     match word {
         Word::Judge => judge_asked(subject, behind),
         Word::Classes => classes_asked(subject, at, behind, space),
-        Word::Step => step_asked(subject, three_numbers(at, behind, space)),
+        Word::Step => step_asked(subject, last_three(at, behind, space)),
         Word::Trace => trace_asked(subject, at, behind, space),
-        Word::Fault => fault_asked(subject, three_numbers(at, behind, space)),
+        Word::Fault => fault_asked(subject, last_three(at, behind, space)),
         Word::Trust => trust_asked(subject, at, behind, space),
         _ => Asked::Unclear,
     }

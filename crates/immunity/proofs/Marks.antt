@@ -1,5 +1,5 @@
 -- The columns of a card go by the marks, each from an area that every witness fits.
-use mathlib.Core.Path.{_≡_, refl, ap, _∙_}
+use mathlib.Core.Path.{_≡_, refl, _∙_}
 use mathlib.Core.List.{List}
 use Prim.Native.Nat.{ℕ, _≤_, _<_}
 use lib.Bits.{bitOr}

@@ -1,6 +1,5 @@
 -- The area that the card lends itself holds every witness: question 13 is answered yes.
 use mathlib.Core.Path.{_≡_, refl}
-use mathlib.Core.List.{List}
 use mathlib.Core.Option.{Option, none, some}
 use Prim.Native.Nat.{ℕ, _*_, _≤_, zero-le}
 use native.Mathlib.Nat.{mul-le-mul}

@@ -1,20 +1,26 @@
 -- The rows before the first round.
-use mathlib.Core.Path.{_≡_, refl, sym, ap, _∙_, subst}
+use mathlib.Core.Path.{_≡_, refl, sym, _∙_}
 use mathlib.Core.Bool.{Bool, true, false, cond, not, _&&_, _||_}
 use mathlib.Core.List.{List}
 use mathlib.Core.Logic.{_⊎_, inl, inr, ⊎-elim}
-use Prim.Native.Nat.{ℕ, zero, suc, _+_, _≤_, _<_, zero-le}
+use Prim.Native.Nat.{ℕ, _+_, _≤_, _<_, zero-le}
 use native.Mathlib.Omega.{arith}
 use lib.Dec.{eqb, leb, ltb}
 use lib.ListN.{length, getD, replicate, length-replicate, getD-replicate}
-use borrow.Author.Tests.{eq-eqb, ne-eqb, eqb-true, eqb-false, lt-ltb, le-ltb, le-leb, lt-leb}
+use borrow.Author.Tests.{eq-eqb, eqb-true, lt-ltb, le-ltb}
 use Rattle.theory.specs.Monitor.{stateLimit}
 use Rattle.theory.specs.Pairs.{told}
 use Rattle.theory.proofs.Below.{clash, lt-or-le, or-cases, or-left, or-right, and-left, and-both}
 use Rattle.pairs.specs.declared.Test.{Test}
 use Rattle.pairs.specs.declared.Test.the-variants.{Differ, Misread}
 use Rattle.pairs.specs.Square.{never, squareSize, place, entry, passes, passing, apartAtOnce}
-use Rattle.pairs.specs.Layers.{setAt, Put, Entered, Kept, Layer, Begun}
+use Rattle.pairs.specs.Layers.{setAt, Put, Entered, Layer, Begun}
+use Rattle.pairs.proofs.Layers.{kept-rows}
+
+-- an entry of 0 or never is 0 where the test says so
+zero-where : (c : Bool) → eqb (cond c 0 never) 0 ≡ c
+zero-where true = refl
+zero-where false = refl
 
 pub begun-none : {test : Test} {outs : List ℕ} → length outs ≤ stateLimit
     → Begun test outs 0 (replicate squareSize never) (replicate stateLimit 0) (replicate stateLimit 0) (λ q. false)
@@ -34,19 +40,7 @@ begun-none small = record {
 
 pub begun-rows : {test : Test} {outs : List ℕ} {p : ℕ} {square alike fresh : List ℕ} {rows rows′ : ℕ → Bool}
     → Begun test outs p square alike fresh rows → ((q : ℕ) → rows′ q ≡ rows q) → Begun test outs p square alike fresh rows′
-begun-rows b e = record {
-  kept = record {
-    size = b .kept .size;
-    alike-size = b .kept .alike-size;
-    fresh-size = b .kept .fresh-size;
-    alike-is = b .kept .alike-is;
-    fresh-is = b .kept .fresh-is;
-    rows-some = λ p t. b .kept .rows-some p (sym (e p) ∙ t);
-    rows-all = λ p q l t. e p ∙ b .kept .rows-all p q l t;
-  };
-  done = b .done;
-  rest = b .rest;
-}
+begun-rows b e = record { kept = kept-rows (b .kept) e; done = b .done; rest = b .rest }
 
 -- ---- one row more
 
@@ -106,14 +100,10 @@ module _ {test : Test} {outs : List ℕ} (small : length outs ≤ stateLimit) {p
       let e : x ≡ p = omega (arith, l, lx) in
       rw e (X .here q
       ∙ ⊎-elim
-      (λ (lq : q < n). rw (lt-ltb q n lq, here q lq) (go (apart q)))
+      (λ (lq : q < n). rw (lt-ltb q n lq, here q lq) (sym (zero-where (apart q))))
       (λ out. is q ∙ rw (le-ltb q n out))
       (lt-or-le q n)))
       (lt-or-le x p)
-    where
-      go : (c : Bool) → c ≡ eqb (cond c 0 never) 0
-      go true = refl
-      go false = refl
 
   rest-after : (x q : ℕ) → p + 1 ≤ x → x < n → q < stateLimit → entry square′ x q ≡ never
   rest-after x q l lx lq = E .elsewhere x q (omega (arith, lx, small)) lq (λ e. omega (arith, e, l)) ∙ b .rest x q (omega (arith, l)) lx lq
@@ -197,11 +187,7 @@ module _ {n : ℕ} {test : Test} {outs square alike fresh : List ℕ} {rows : �
     (b : Begun test outs (length outs) square alike fresh rows) where
   -- the pairs at 0 are those that pass the test
   pub begun-passing : (p q : ℕ) → p < n → q < n → apartAtOnce square p q ≡ passing test outs p q
-  begun-passing p q lp lq = rw (b .done p q (omega (arith, lp, e)) (omega (arith, lq, e))) (go (passing test outs p q))
-    where
-      go : (c : Bool) → eqb (cond c 0 never) 0 ≡ c
-      go true = refl
-      go false = refl
+  begun-passing p q lp lq = rw (b .done p q (omega (arith, lp, e)) (omega (arith, lq, e))) (zero-where (passing test outs p q))
 
   pub begun-self : (p : ℕ) → p < n → apartAtOnce square p p ≡ false
   begun-self p lp = begun-passing p p lp lp ∙ passes-self test (getD outs p 0)

@@ -1,13 +1,13 @@
 -- Sets gathered state by state: by a test, of predecessors, and what leads into a set; entries of a row made one by one.
 use mathlib.Core.Path.{_≡_, refl, sym, ap, _∙_}
-use mathlib.Core.Bool.{Bool, true, false, cond, not, _&&_, _||_}
+use mathlib.Core.Bool.{Bool, true, false, cond, not, _&&_, _||_, and-true, and-false, or-false}
 use mathlib.Core.List.{List}
 use mathlib.Core.Logic.{⊎-elim}
 use Prim.Native.Nat.{ℕ, _+_, _*_, _≤_, _<_, zero-le}
 use native.Mathlib.Nat.{le-refl}
 use native.Mathlib.Omega.{arith}
 use lib.Dec.{eqb, ltb}
-use lib.ListN.{length, getD, set, replicate, length-set, length-replicate, getD-replicate}
+use lib.ListN.{length, set, replicate, length-set, length-replicate, getD-replicate}
 use lib.Seq.{getD-set-same, getD-set-other}
 use borrow.Author.Tests.{eq-eqb, ne-eqb, eqb-true, eqb-false, lt-ltb, le-ltb}
 use Rattle.theory.specs.Below.{first}
@@ -36,17 +36,13 @@ module _ {test f : ℕ → Bool} where
       at = λ x.
           is x ∙ rw (G .at x, lt-ltb q stateLimit l)
           (⊎-elim
-          (λ (b : x < q). rw (lt-ltb x q b, lt-ltb x (q + 1) (omega arith), ne-eqb x q (λ e. omega arith)) (or-no (test x)))
+          (λ (b : x < q). rw (lt-ltb x q b, lt-ltb x (q + 1) (omega arith), ne-eqb x q (λ e. omega arith)) (or-false (test x)))
           (λ b. ⊎-elim
           (λ (c : q < x). rw (le-ltb x q b, le-ltb x (q + 1) (omega arith), ne-eqb x q (λ e. omega arith)))
           (λ c. (let e : x ≡ q = omega arith in rw e (rw (le-ltb q q (le-refl q), lt-ltb q (q + 1) (omega arith), eq-eqb q q refl, t))))
           (lt-or-le q x))
           (lt-or-le x q));
     }
-      where
-        or-no : (b : Bool) → (b || false) ≡ b
-        or-no true = refl
-        or-no false = refl
 
     pub gathered-no : {h : ℕ → Bool} → test q ≡ false → ((x : ℕ) → h x ≡ f x) → Gathered test (q + 1) h
     gathered-no {h} t is = record {
@@ -63,11 +59,7 @@ module _ {test f : ℕ → Bool} where
 
 -- all states below n
 pub gathered-below : {n q : ℕ} {f : ℕ → Bool} → Gathered (λ x. true) q f → q ≤ n → n ≤ q → (x : ℕ) → f x ≡ ltb x n
-gathered-below {n} {q} G l m x = (let e : q ≡ n = omega arith in G .at x ∙ rw e (and-yes (ltb x n)))
-  where
-    and-yes : (b : Bool) → (b && true) ≡ b
-    and-yes true = refl
-    and-yes false = refl
+gathered-below {n} {q} G l m x = (let e : q ≡ n = omega arith in G .at x ∙ rw e (and-true (ltb x n)))
 
 pub gathered-whole : {test f : ℕ → Bool} {n q : ℕ} → Gathered test q f → q ≤ n → n ≤ q → (x : ℕ) → f x ≡ (ltb x n && test x)
 gathered-whole {n = n} {q = q} G l m x = (let e : q ≡ n = omega arith in G .at x ∙ rw e)
@@ -110,13 +102,9 @@ module _ {g : Automaton} where
   pub preceding-row : (p : ℕ) {sets : List ℕ} → Preceding g (upTo p (g .symbols)) sets → Preceding g (upTo (p + 1) 0) sets
   preceding-row p P = record { size = P .size; at = λ x a q lx la. P .at x a q lx la ∙ ap (λ (b : Bool). b && eqb (g .next q a) x) (same a q la) }
     where
-      and-no : (b : Bool) → (b && false) ≡ false
-      and-no true = refl
-      and-no false = refl
-
       same : (a q : ℕ) → a < g .symbols → upTo p (g .symbols) q a ≡ upTo (p + 1) 0 q a
       same a q la =
-          rw (lt-ltb a (g .symbols) la, le-ltb a 0 zero-le, and-no (eqb q (p + 1)))
+          rw (lt-ltb a (g .symbols) la, le-ltb a 0 zero-le, and-false (eqb q (p + 1)))
           (⊎-elim
           (λ (b : q < p). rw (lt-ltb q p b, lt-ltb q (p + 1) (omega arith)))
           (λ b. ⊎-elim
@@ -147,13 +135,7 @@ module _ {g : Automaton} where
         where
           by-end : q ≡ p → (c : Bool) → eqb (g .next q b) y ≡ c → b ≡ a → (upTo p a q b && eqb (g .next q b) y) ≡ (upTo p (a + 1) q b && eqb (g .next q b) y)
           by-end eq true h eb = absurd (ne eq eb (eqb-true (g .next q b) y h))
-          by-end eq false h eb = rw h (nothing (upTo p a q b) (upTo p (a + 1) q b))
-            where
-              nothing : (c d : Bool) → (c && false) ≡ (d && false)
-              nothing true true = refl
-              nothing true false = refl
-              nothing false true = refl
-              nothing false false = refl
+          by-end eq false h eb = rw h (and-false (upTo p a q b) ∙ sym (and-false (upTo p (a + 1) q b)))
 
           by-row : (c : Bool) → eqb q p ≡ c → (upTo p a q b && eqb (g .next q b) y) ≡ (upTo p (a + 1) q b && eqb (g .next q b) y)
           by-row false h = rw h
@@ -173,11 +155,7 @@ module _ {g : Automaton} where
           here ey eb = rw (ey, eb) (S .here q ∙ rw (P .at x a q lx la, lt-ltb p stateLimit lp) (by-state (eqb q p) refl))
             where
               same : (c d : Bool) → (((c || (false && d)) && eqb (g .next q a) x) || (false && true)) ≡ ((c || (false && ltb a (a + 1))) && eqb (g .next q a) x)
-              same true d = go (eqb (g .next q a) x)
-                where
-                  go : (c : Bool) → (c || false) ≡ c
-                  go true = refl
-                  go false = refl
+              same true d = or-false (eqb (g .next q a) x)
               same false d = refl
 
               by-state : (c : Bool) → eqb q p ≡ c
@@ -234,12 +212,8 @@ module _ {g : Automaton} {a : ℕ} {sets : List ℕ} (P : Preceding g (λ p b. l
 
   pub gathering-all : {whole into left : ℕ → Bool} → Gathering g a whole into left → Closed g → g .states ≤ stateLimit → {y : ℕ}
       → y ≡ first left 0 stateLimit → stateLimit ≤ y → Into g a whole into
-  gathering-all {whole} {into} {left} G c small ey l = record { at = λ q. sym (or-no (into q)) ∙ ap (λ (b : Bool). into q || b) (sym (none q)) ∙ G .at q }
+  gathering-all {whole} {into} {left} G c small ey l = record { at = λ q. sym (or-false (into q)) ∙ ap (λ (b : Bool). into q || b) (sym (none q)) ∙ G .at q }
     where
-      or-no : (b : Bool) → (b || false) ≡ b
-      or-no true = refl
-      or-no false = refl
-
       none : (q : ℕ) → (ltb q (g .states) && left (g .next q a)) ≡ false
       none q =
           ⊎-elim

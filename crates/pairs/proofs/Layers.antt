@@ -1,6 +1,6 @@
 -- From the pairs at distance r to those at r + 1, and what holds when none is left.
-use mathlib.Core.Path.{_≡_, refl, sym, ap, _∙_, subst}
-use mathlib.Core.Bool.{Bool, true, false, cond, not, _&&_, _||_}
+use mathlib.Core.Path.{_≡_, refl, sym, _∙_, subst}
+use mathlib.Core.Bool.{Bool, true, false, not, _&&_, _||_, and-true, or-false}
 use mathlib.Core.List.{List}
 use mathlib.Core.Logic.{_⊎_, inl, inr, ⊎-elim}
 use Prim.Native.Nat.{ℕ, zero, suc, _+_, _*_, _≤_, _<_}
@@ -14,10 +14,10 @@ use Rattle.theory.specs.Automaton.{Automaton, Closed}
 use Rattle.theory.specs.Monitor.{stateLimit}
 use Rattle.theory.specs.Pairs.{Tells, told}
 use Rattle.theory.specs.Extent.{Shortest}
-use Rattle.theory.proofs.Below.{clash, not-clash, is-true, both-ways, lt-or-le, or-cases, or-left, or-right, and-left, and-right, and-both, any-at, any-find}
-use Rattle.theory.proofs.Pairs.{onward, told-sound, told-complete, told-more, told-up, still-ever, told-settled, tells-same}
+use Rattle.theory.proofs.Below.{clash, not-clash, both-ways, lt-or-le, or-cases, or-left, or-right, and-left, and-right, and-both, any-at, any-find}
+use Rattle.theory.proofs.Pairs.{onward, told-sound, told-complete, told-more, told-up, still-ever, told-settled}
 use Rattle.pairs.specs.Square.{never, squareSize, entry, Noted, Squared}
-use Rattle.pairs.specs.Layers.{setAt, Put, Empty, Preceding, Into, Entered, Ground, Kept, Stage, Layer, Front, Midway, GoesAt, rowDone}
+use Rattle.pairs.specs.Layers.{setAt, Put, Empty, Preceding, Into, Entered, Ground, Kept, Layer, Front, Midway, GoesAt, rowDone}
 
 -- ---- pairs told apart within a number of symbols
 
@@ -43,14 +43,6 @@ module _ (g : Automaton) (ends : ℕ → ℕ → Bool) where
 
 -- ---- sets in arrays
 
-and-yes : (b : Bool) → (b && true) ≡ b
-and-yes true = refl
-and-yes false = refl
-
-or-no : (b : Bool) → (b || false) ≡ b
-or-no true = refl
-or-no false = refl
-
 put-same : {before after : List ℕ} {p : ℕ} {f : ℕ → Bool} → Put before p f after → (x q : ℕ) → (x ≡ p → f q ≡ setAt before p q)
     → setAt after x q ≡ setAt before x q
 put-same {before} {after} {p} {f} P x q same = go (eqb x p) refl
@@ -58,6 +50,19 @@ put-same {before} {after} {p} {f} P x q same = go (eqb x p) refl
     go : (b : Bool) → eqb x p ≡ b → setAt after x q ≡ setAt before x q
     go true h = (let e = eqb-true x p h in rw e (P .here q ∙ same e))
     go false h = P .elsewhere x q (eqb-false x p h)
+
+-- the same rows
+pub kept-rows : {n d upto : ℕ} {square alike fresh : List ℕ} {rows rows′ : ℕ → Bool} → Kept n d upto square alike fresh rows
+    → ((p : ℕ) → rows′ p ≡ rows p) → Kept n d upto square alike fresh rows′
+kept-rows k e = record {
+  size = k .size;
+  alike-size = k .alike-size;
+  fresh-size = k .fresh-size;
+  alike-is = k .alike-is;
+  fresh-is = k .fresh-is;
+  rows-some = λ p t. k .rows-some p (sym (e p) ∙ t);
+  rows-all = λ p q l t. e p ∙ k .rows-all p q l t;
+}
 
 -- ---- one row with one symbol
 
@@ -172,10 +177,10 @@ module _ {g : Automaton} {ends : ℕ → ℕ → Bool} {predecessors : List ℕ}
       new-out q l = not-clash (λ t. (let z = new-says q t .0 in omega (arith, z, l)))
 
       alike-same : (x q : ℕ) → (x ≡ p → new q ≡ false) → setAt alike′ x q ≡ setAt alike x q
-      alike-same x q keeps = put-same A x q (λ e. rw (keeps e) (and-yes (setAt alike p q)))
+      alike-same x q keeps = put-same A x q (λ e. rw (keeps e) (and-true (setAt alike p q)))
 
       next-same : (x q : ℕ) → (x ≡ p → new q ≡ false) → setAt next′ x q ≡ setAt next x q
-      next-same x q keeps = put-same X x q (λ e. rw (keeps e) (or-no (setAt next p q)))
+      next-same x q keeps = put-same X x q (λ e. rw (keeps e) (or-false (setAt next p q)))
 
       alike-after : (x q : ℕ) → x < n → setAt alike′ x q ≡ ((ltb q n && not (eqb q x)) && eqb (entry square′ x q) never)
       alike-after x q lx =
@@ -432,12 +437,6 @@ module _ {g : Automaton} {ends : ℕ → ℕ → Bool} {r : ℕ} {square alike f
 
   -- where no pair is fresh, no further symbol tells two states apart, and the square is finished
   module _ (c : Closed g) (none : (p : ℕ) → p < g .states → rows p ≡ false) (fits : r < never) where
-    not-here : (p q : ℕ) → p < g .states → q < g .states → entry square p q ≡ r → ⊥
-    not-here p q lp lq e =
-        clash (L .kept .rows-all p q lp
-        (L .kept .fresh-is p q lp ∙ and-both (ltb q (g .states)) (eqb (entry square p q) r) (lt-ltb q (g .states) lq) (eq-eqb (entry square p q) r e)))
-        (none p lp)
-
     still : (p q : ℕ) → p < g .states → q < g .states → told g ends (suc r) p q ≡ told g ends r p q
     still p q lp lq =
         both-ways

@@ -1,5 +1,5 @@
 -- One symbol, one state and one round of the search: which rows and symbols are done.
-use mathlib.Core.Path.{_≡_, refl, sym, ap, _∙_}
+use mathlib.Core.Path.{_≡_, refl, sym, _∙_}
 use mathlib.Core.Bool.{Bool, true, false, not, _&&_, _||_}
 use mathlib.Core.List.{List}
 use mathlib.Core.Logic.{_⊎_, inl, inr, ⊎-elim}
@@ -9,14 +9,13 @@ use lib.Dec.{eqb, ltb}
 use lib.ListN.{length}
 use borrow.Author.Tests.{eq-eqb, eqb-true, eqb-false, lt-ltb, le-ltb, ltb-true, not-true}
 use Rattle.theory.specs.Below.{first}
-use Rattle.theory.specs.Automaton.{Automaton, Closed}
+use Rattle.theory.specs.Automaton.{Automaton}
 use Rattle.theory.specs.Monitor.{stateLimit, symbolLimit}
-use Rattle.theory.specs.Pairs.{told}
-use Rattle.theory.proofs.Below.{clash, not-clash, is-true, lt-or-le, or-cases, or-left, or-right, and-left, and-right, and-both}
+use Rattle.theory.proofs.Below.{clash, not-clash, lt-or-le, or-cases, or-left, or-right, and-left, and-right, and-both}
 use Rattle.pairs.specs.Square.{never}
-use Rattle.pairs.specs.Layers.{setAt, Put, Empty, Preceding, Ground, Layer, Front, Midway, GoesAt, rowDone, symbolDone, stateDone}
-use Rattle.pairs.proofs.Visit.{lowest-in, lowest-none}
-use Rattle.pairs.proofs.Layers.{layer-begins, layer-front, layer-next}
+use Rattle.pairs.specs.Layers.{setAt, Put, Empty, Ground, Layer, Front, Midway, GoesAt, rowDone, symbolDone, stateDone}
+use Rattle.pairs.proofs.Visit.{lowest-in, lowest-none, stays}
+use Rattle.pairs.proofs.Layers.{kept-rows, layer-begins, layer-front, layer-next}
 
 -- where less is done, what is done stays
 pub midway-less : {g : Automaton} {ends : ℕ → ℕ → Bool} {r : ℕ} {done less : ℕ → ℕ → Bool} {square alike next : List ℕ} {rows : ℕ → Bool}
@@ -54,9 +53,6 @@ taken left left′ {y} is q h = go (left q) refl (eqb q y) refl
     go false e c k = inl e
     go true e true k = inr (eqb-true q y k)
     go true e false k = absurd (clash (is q ∙ rw (e, k)) h)
-
-pub stays : (left left′ : ℕ → Bool) (y : ℕ) → ((q : ℕ) → left′ q ≡ (left q && not (eqb q y && ltb y stateLimit))) → (q : ℕ) → left′ q ≡ true → left q ≡ true
-stays left left′ y is q h = and-left (left q) (not (eqb q y && ltb y stateLimit)) (sym (is q) ∙ h)
 
 -- ---- one symbol
 
@@ -176,15 +172,7 @@ module _ {g : Automaton} {ends : ℕ → ℕ → Bool} {r : ℕ} {square₀ alik
       → Spreading g ends r rows rows fresh₀ fresh₀ square₀ alike₀ next found
   spreading-begins {next} {found} fits N none = record {
     midway = record {
-      kept = record {
-        size = M .kept .size;
-        alike-size = M .kept .alike-size;
-        fresh-size = M .kept .fresh-size;
-        alike-is = M .kept .alike-is;
-        fresh-is = M .kept .fresh-is;
-        rows-some = λ p t. absurd (clash t (none p));
-        rows-all = λ p q lp t. absurd (clash t (N .none p q lp));
-      };
+      kept = kept-rows (M .kept) none;
       old = M .old;
       known = M .known;
       new = M .new;

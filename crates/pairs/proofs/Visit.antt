@@ -1,5 +1,5 @@
 -- The states of a set taken lowest first, each once; stated over tests of states, so that nothing is said of how a set is held.
-use mathlib.Core.Path.{_≡_, refl, sym, ap, _∙_}
+use mathlib.Core.Path.{_≡_, refl, sym, _∙_}
 use mathlib.Core.Bool.{Bool, true, false, not, _&&_}
 use mathlib.Core.Logic.{⊎-elim}
 use Prim.Native.Nat.{ℕ, _≤_, _<_, zero-le}
@@ -18,11 +18,15 @@ lowest-in f {y} e l = rw e (first-here f 0 stateLimit (omega (arith, e, l)))
 pub lowest-none : (f : ℕ → Bool) {y : ℕ} → y ≡ first f 0 stateLimit → stateLimit ≤ y → (q : ℕ) → q < stateLimit → f q ≡ false
 lowest-none f {y} e l q lq = first-below f 0 stateLimit q zero-le (omega (arith, e, l, lq))
 
+-- what is left after a state is taken out was there
+pub stays : (left left′ : ℕ → Bool) (y : ℕ) → ((q : ℕ) → left′ q ≡ (left q && not (eqb q y && ltb y stateLimit))) → (q : ℕ) → left′ q ≡ true → left q ≡ true
+stays left left′ y is q h = and-left (left q) (not (eqb q y && ltb y stateLimit)) (sym (is q) ∙ h)
+
 -- taken out, it leaves fewer
 pub lowest-less : (f h : ℕ → Bool) {y : ℕ} → y ≡ first f 0 stateLimit → y < stateLimit → ((q : ℕ) → h q ≡ (f q && not (eqb q y && ltb y stateLimit)))
     → count stateLimit h < count stateLimit f
 lowest-less f h {y} e l is =
-    count-more stateLimit h f (λ q lq t. and-left (f q) (not (eqb q y && ltb y stateLimit)) (sym (is q) ∙ t)) y l
+    count-more stateLimit h f (λ q lq. stays f h y is q) y l
     (is y ∙ rw (eq-eqb y y refl, lt-ltb y stateLimit l, lowest-in f e l)) (lowest-in f e l)
 
 module _ (f : ℕ → Bool) {b : Bool} (e : b ≡ eqb (first f 0 stateLimit) stateLimit) where

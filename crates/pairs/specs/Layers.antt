@@ -4,7 +4,7 @@ use mathlib.Core.Path.{_≡_}
 use mathlib.Core.Bool.{Bool, true, false, cond, not, _&&_, _||_}
 use mathlib.Core.List.{List}
 use mathlib.Core.Logic.{_⊎_}
-use Prim.Native.Nat.{ℕ, zero, suc, _+_, _*_, _≤_, _<_}
+use Prim.Native.Nat.{ℕ, suc, _+_, _*_, _≤_, _<_}
 use lib.Dec.{eqb, leb, ltb}
 use lib.ListN.{length, getD}
 use Rattle.theory.specs.Automaton.{Automaton, Closed}
@@ -39,7 +39,7 @@ pub record Preceding (g : Automaton) (entered : ℕ → ℕ → Bool) (sets : Li
   pub at : (x a p : ℕ) → x < stateLimit → a < g .symbols
       → setAt sets (x * symbolLimit + a) p ≡ (entered p a && eqb (g .next p a) x)
 
--- all states below n were entered, and of p the symbols below a
+-- all states below p were entered, and of p the symbols below a
 abbrev pub upTo : ℕ → ℕ → ℕ → ℕ → Bool
 upTo p a q b = ltb q p || (eqb q p && ltb b a)
 

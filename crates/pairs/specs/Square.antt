@@ -55,7 +55,7 @@ passes (Misread v) sent received = eqb received v && not (eqb sent v)
 abbrev pub passing : Test → List ℕ → ℕ → ℕ → Bool
 passing test outs p q = passes test (getD outs p 0) (getD outs q 0)
 
--- the pair is told apart by no symbol at all: it is at 0
+-- the pair is told apart before any symbol: it is at 0
 abbrev pub apartAtOnce : List ℕ → ℕ → ℕ → Bool
 apartAtOnce square p q = eqb (entry square p q) 0
 

@@ -1,4 +1,5 @@
-// The square of pair distances: for every two states, the fewest symbols that tell them apart.
+// The square of pair distances: for every two states, the one after the sent trace first, the fewest symbols after
+// which their outputs pass a test.
 use state_set::StateSet;
 use theory::SQUARE_SIZE;
 use theory::STATE_LIMIT;
@@ -185,28 +186,28 @@ fn spread_row(
     a: usize,
     front: StateSet,
     r: u16,
-    rows: StateSet,
+    found: StateSet,
 ) -> StateSet
     requires { ⌜ (p < stateLimit)
         × (a < symbolLimit)
         × (r + 1 < never) ⌝ }
     ensures { λ after. ⌜ ((g : Automaton) → p < g .states → a < g .symbols
         → GoesAt g r (g .next p a) (member front) (rowDone p a) (now (predecessors .entry))
-        (now (square .entry)) (now (alike .entry)) (now (next .entry)) (member rows)
+        (now (square .entry)) (now (alike .entry)) (now (next .entry)) (member found)
         (now (square .exit)) (now (alike .exit)) (now (next .exit)) (member after)) ⌝ }
 {
     let here = set_of(alike, p);
     if is_empty(here) {
-        return rows;
+        return found;
     }
     let new = here.intersection(leading_into(predecessors, a, front));
     if is_empty(new) {
-        return rows;
+        return found;
     }
     put(alike, p, here.minus(new));
     put(next, p, set_of(next, p).union(new));
     enter(square, p, new, r + 1);
-    rows.with(p)
+    found.with(p)
 }
 
 // The same for each row from which a leads to x.

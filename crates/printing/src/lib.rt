@@ -219,3 +219,12 @@ pub fn counted_finding(out: Output, answer: Finding) -> Output {
     };
     counts(answered, w)
 }
+
+// An answer on a verdict, and behind it the counts of its witness.
+pub fn counted_trust(out: Output, answer: Trust) -> Output {
+    let answered = trusted(out, answer);
+    let Trust::No(w) = answer else {
+        return answered;
+    };
+    counts(answered, w)
+}

@@ -4,7 +4,6 @@
 use basics::Writing;
 use output::Output;
 use output::Program;
-use trust::Trust;
 ghost use Prim.Native.Nat.{_+_, _≤_, _<_};
 ghost use lib.ListN.{length};
 
@@ -87,15 +86,6 @@ fn write(out: Output, rules: usize, lengths: usize, room: usize, bytes: &[u8]) -
     printing::bytes(printing::writing(out, answer), lent)
 }
 
-// Whether a verdict can be believed, and the counts of the witness if it cannot.
-fn trusted(out: Output, answer: Trust) -> Output {
-    let answered = printing::trusted(out, answer);
-    let Trust::No(witness) = answer else {
-        return answered;
-    };
-    printing::counts(answered, witness)
-}
-
 // Call 7: the numbers are the fault set, the reading and the verdict. The length of the area, which is full of 255
 // before the call, stands before the body in two bytes.
 fn believe(out: Output, set: usize, domain: usize, verdict: usize, bytes: &[u8]) -> Output {
@@ -105,7 +95,7 @@ fn believe(out: Output, set: usize, domain: usize, verdict: usize, bytes: &[u8])
         let lent = &mut area[0..room];
         let body = basics::part(bytes, 2, bytes.len());
         let answer = trust::believe(body, set, domain, verdict, lent);
-        return printing::bytes(trusted(out, answer), lent);
+        return printing::bytes(printing::counted_trust(out, answer), lent);
     }
     out
 }

@@ -1,24 +1,24 @@
 -- Trusted verdicts: no witness against a verdict exactly if it is trusted; all trusted exactly if immune; one fault stands for any number.
-use mathlib.Core.Path.{_≡_, refl, sym, ap, _∙_, subst}
-use mathlib.Core.Bool.{Bool, true, false, not, _&&_, cond}
+use mathlib.Core.Path.{_≡_, refl, ap, _∙_}
+use mathlib.Core.Bool.{Bool, true, false, not}
 use mathlib.Core.List.{List}
 use mathlib.Core.Logic.{_↔_, _⊎_, inl, inr, ⊎-elim}
-use mathlib.Core.Option.{Option, none, some}
-use Prim.Native.Nat.{ℕ, zero, suc, _≤_, _<_}
+use mathlib.Core.Option.{none, some}
+use Prim.Native.Nat.{ℕ, zero, suc, _<_}
 use native.Mathlib.Omega.{arith}
 use lib.Dec.{eqb}
 use borrow.Author.Tests.{eqb-true, eqb-false, eq-eqb, ne-eqb, not-true}
 use Rattle.theory.specs.Automaton.{Automaton, run, leads}
 use Rattle.theory.specs.Monitor.{Monitor, WellFormed, classFrom, class, reading, marked}
 use Rattle.theory.specs.Faults.{FaultStep}
-use Rattle.theory.specs.Series.{Series, sentTrace, receivedTrace, Precedes}
-use Rattle.theory.specs.Distance.{Faulted, Chained, end, then, differ, reads, faultsOf, Harmed}
+use Rattle.theory.specs.Series.{Series, sentTrace, receivedTrace}
+use Rattle.theory.specs.Distance.{Chained, end, then, reads, faultsOf}
 use Rattle.theory.specs.Trust.{Trusted, TrustedUnderAny, Misreading, FirstMisreading}
 use Rattle.theory.specs.Computed.{misread, firstMisreading}
 use Rattle.theory.proofs.Below.{and-left, and-right, and-both}
 use Rattle.theory.proofs.Reach.{run-in}
 use Rattle.theory.proofs.Faults.{steps-good, steps-rise}
-use Rattle.theory.proofs.Witness.{Harm, First, first-harms, none-harms, found-none}
+use Rattle.theory.proofs.Witness.{Harm, first-harms, none-harms, found-none}
 use Rattle.theory.proofs.Distance.{Immune, differ-not, alike-or-differ, received-is-trace, first-alone}
 
 module _ (m : Monitor) (d v : ℕ) where

@@ -30,7 +30,8 @@ firstWitness m d set = firstHarmful (m .automaton) (differ m d) (faultsOf m set)
 abbrev pub misread : Monitor → ℕ → ℕ → ℕ → ℕ → Bool
 misread m d v p q = eqb (reading m d q) v && not (eqb (reading m d p) v)
 
--- the first witness against the verdict v
+-- the first witness against the verdict v: "the first witness in 01's order whose received reading is that verdict and
+-- whose sent reading is another"
 abbrev pub firstMisreading : Monitor → ℕ → ℕ → ℕ → Option Series
 firstMisreading m d set v = firstHarmful (m .automaton) (misread m d v) (faultsOf m set) (m .start)
 

@@ -1,9 +1,8 @@
 -- `all_below` meets its contract: the states below q are gathered.
-use mathlib.Core.Path.{_≡_, refl, _∙_}
-use mathlib.Core.Bool.{true, _&&_}
-use Prim.Native.Nat.{ℕ, _-_, _≤_}
+use mathlib.Core.Path.{refl}
+use mathlib.Core.Bool.{true}
+use Prim.Native.Nat.{_-_, _≤_}
 use native.Mathlib.Omega.{arith}
-use lib.Dec.{ltb}
 use borrow.Author.Needs.{needs}
 use Rattle.state_set.specs.Member.{member}
 use Rattle.pairs.proofs.Gather.{Gathered, gathered-none, gathered-yes, gathered-below}

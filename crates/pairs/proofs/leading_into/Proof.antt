@@ -1,10 +1,10 @@
 -- `leading_into` meets its contract: what was gathered, and what leads into the states that are left, make the whole.
-use Prim.Native.Nat.{_≤_, _<_}
+use Prim.Native.Nat.{_<_}
 use native.Mathlib.Omega.{arith}
 use lib.Dec.{ltb}
 use borrow.Author.Needs.{needs}
 use Rattle.theory.specs.Below.{count}
-use Rattle.theory.specs.Automaton.{Automaton, Closed}
+use Rattle.theory.specs.Automaton.{Automaton}
 use Rattle.theory.specs.Monitor.{stateLimit}
 use Rattle.state_set.specs.Member.{member}
 use Rattle.pairs.specs.Layers.{Preceding}

@@ -1,8 +1,6 @@
 -- `spread_row` meets its contract: nothing is alike, nothing is new, or what is new is entered.
-use mathlib.Core.Path.{_≡_, sym, _∙_}
-use native.Mathlib.Omega.{arith}
+use mathlib.Core.Path.{sym, _∙_}
 use borrow.Author.Needs.{needs}
-use Rattle.theory.proofs.Below.{clash}
 use Rattle.pairs.proofs.Visit.{empty-none, empty-some}
 use Rattle.pairs.proofs.Layers.{row-nothing, row-none, row-new}
 use Rattle.pairs.proofs.spread_row.Statement.{statement}

@@ -9,8 +9,8 @@ use Rattle.theory.specs.Automaton.{Automaton}
 use Rattle.theory.specs.Monitor.{stateLimit, symbolLimit}
 use Rattle.state_set.specs.Member.{member}
 use Rattle.pairs.specs.Layers.{setAt, GoesAt, symbolDone}
-use Rattle.pairs.proofs.Visit.{lowest-less}
-use Rattle.pairs.proofs.Rounds.{butLeft, stays, symbol-begins, symbol-more, symbol-ends}
+use Rattle.pairs.proofs.Visit.{lowest-less, stays}
+use Rattle.pairs.proofs.Rounds.{butLeft, symbol-begins, symbol-more, symbol-ends}
 use Rattle.pairs.proofs.spread_symbol.Statement.{statement}
 use Rattle.pairs.proofs.spread_symbol.Tie as tie
 

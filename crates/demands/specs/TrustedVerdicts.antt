@@ -24,7 +24,7 @@ pub data Believed (m : Monitor) (d set v : ℕ) : FaultFigures → List ℕ → 
       → Believed m d set v (some (seriesFigures (reading m d) m s)) (sentTrace s)
 
 -- `limit` is the greatest number of states
-pub record Trust (limit : ℕ) (b : List ℕ) (set d v : ℕ) : Type 0 where
+pub record TrustedVerdicts (limit : ℕ) (b : List ℕ) (set d v : ℕ) : Type 0 where
   -- yes is said exactly if the verdict is trusted, whatever the area
   pub yes-exactly : (room : ℕ) → Askable set d → v < d
       → (trustAnswer limit b set d v room ≡ answered none) ↔ Trusted (monitorOf b) d set v

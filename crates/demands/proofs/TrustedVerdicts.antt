@@ -1,7 +1,6 @@
 -- Which verdicts can be believed, proved of every accepted table, every fault set, both readings and every verdict.
-use mathlib.Core.Path.{_≡_, refl, sym, _∙_, subst}
+use mathlib.Core.Path.{_≡_, refl, _∙_, subst}
 use mathlib.Core.List.{List, [], _++_}
-use mathlib.Core.Logic.{_↔_, _⊎_, ⊎-elim}
 use mathlib.Core.Option.{Option, none, some}
 use Prim.Native.Nat.{ℕ, _≤_, _<_, zero-le}
 use native.Mathlib.Omega.{arith}
@@ -11,7 +10,7 @@ use Rattle.theory.specs.Answer.{answered}
 use Rattle.theory.specs.Monitor.{Monitor, WellFormed, reading}
 use Rattle.theory.specs.Faults.{allFaults}
 use Rattle.theory.specs.Series.{Series}
-use Rattle.theory.specs.Trust.{Trusted, FirstMisreading}
+use Rattle.theory.specs.Trust.{Trusted}
 use Rattle.theory.specs.Computed.{firstMisreading}
 use Rattle.theory.proofs.Answer.{asks-values}
 use Rattle.theory.proofs.Trust.{trusted-exactly, misreading-first, misreading-only, one-for-any, all-trusted}
@@ -20,8 +19,8 @@ use Rattle.monitor.specs.Questions.{judgeAnswer, tableQuestions}
 use Rattle.monitor.proofs.Accepted.{accepted-table, accepted-asks}
 use Rattle.witness.specs.Figures.{FaultFigures, witnessFigures, witnessTrace}
 use Rattle.trust.specs.Trust.{trustFigures, trustQuestions, trustAnswer, trustTrace}
-use Rattle.demands.specs.DemandTwo.{Askable, DemandTwo}
-use Rattle.demands.specs.Trust.{Believed, yes, no, Trust}
+use Rattle.demands.specs.DemandTwo.{Askable}
+use Rattle.demands.specs.TrustedVerdicts.{Believed, yes, no, TrustedVerdicts}
 use Rattle.demands.proofs.DemandTwo.{known, demand-two}
 
 -- an answer without values says that the verdict is trusted
@@ -56,8 +55,8 @@ module _ (limit : ℕ) (b : List ℕ) (e : judgeAnswer limit b ≡ answered []) 
     says-yes : Trusted m d set v → trustAnswer limit b set d v room ≡ answered none
     says-yes t = (let h = trusted-exactly m d v set w .1 t in given (rw h zero-le) ∙ rw h)
 
-pub trust : (limit : ℕ) (b : List ℕ) → judgeAnswer limit b ≡ answered [] → (set d v : ℕ) → Trust limit b set d v
-trust limit b e set d v = record {
+pub trusted-verdicts : (limit : ℕ) (b : List ℕ) → judgeAnswer limit b ≡ answered [] → (set d v : ℕ) → TrustedVerdicts limit b set d v
+trusted-verdicts limit b e set d v = record {
   yes-exactly = λ room a l. (λ h. no-values (tells limit b e set d v room none h) refl, says-yes limit b e set d v room a l);
   given = λ room a l fits. (trustFigures (monitorOf b) d set v, given limit b e set d v room a l fits);
   answers = tells limit b e set d v;
