@@ -114,18 +114,18 @@ fn enter_predecessor(sets: &mut [u64; PREDECESSORS], nexts: &[u8], n: usize, k: 
     }
 }
 
-// For each state and symbol, the states from which the symbol leads there.
-fn predecessors(nexts: &[u8], n: usize, k: usize) -> [u64; PREDECESSORS]
-    requires { ⌜ Rows stateLimit n k (now nexts) ⌝ }
-    ensures { λ r. ⌜ Preceding (graph n k (nexts .entry)) (λ p a. ltb p n) r ⌝ }
+// Puts every state among the predecessors of its successors: for each state and symbol, the states from which the
+// symbol leads there.
+fn enter_predecessors(sets: &mut [u64; PREDECESSORS], nexts: &[u8], n: usize, k: usize)
+    requires { ⌜ Rows stateLimit n k (now nexts)
+        × Preceding (graph n k nexts) (upTo 0 0) (now sets) ⌝ }
+    ensures { λ _. ⌜ Preceding (graph n k (nexts .entry)) (λ p a. ltb p n) (now (sets .exit)) ⌝ }
 {
-    let mut sets = [0u64; PREDECESSORS];
     let mut p = 0;
     while p < n {
-        enter_predecessor(&mut sets, nexts, n, k, p);
+        enter_predecessor(sets, nexts, n, k, p);
         p += 1;
     }
-    sets
 }
 
 // The predecessors of x under symbol a.
@@ -402,7 +402,8 @@ pub fn distances(nexts: &[u8], n: usize, k: usize, outputs: &[u8], test: Test) -
     let mut alike = [0u64; STATE_LIMIT];
     let mut fresh = [0u64; STATE_LIMIT];
     let mut next = [0u64; STATE_LIMIT];
-    let sets = predecessors(nexts, n, k);
+    let mut sets = [0u64; PREDECESSORS];
+    enter_predecessors(&mut sets, nexts, n, k);
     let mut rows = begin(&mut square, &mut alike, &mut fresh, outputs, test);
     let mut r = 0u16;
     while !is_empty(rows) {

@@ -14,7 +14,7 @@ use Rattle.monitor.proofs.Rows.{next-of-rows}
 use Rattle.pairs.specs.Square.{squareSize, apartAtOnce}
 use Rattle.pairs.specs.Layers.{Empty, Ground, Layer}
 use Rattle.pairs.proofs.Visit.{empty-none, empty-some}
-use Rattle.pairs.proofs.Gather.{empty-sets}
+use Rattle.pairs.proofs.Gather.{empty-sets, preceding-none}
 use Rattle.pairs.proofs.Layers.{layer-early, layer-last}
 use Rattle.pairs.proofs.First.{begun-none, begun-passing, begun-self, begun-layer}
 use Rattle.pairs.proofs.Path.{squared-same}
@@ -30,23 +30,26 @@ Inv-loop nexts n k outputs square₀ alike₀ fresh₀ next₀ sets rows₀ r₀
 abbrev μ-loop : tie.MeasureT-loop
 μ-loop nexts n k outputs square₀ alike₀ fresh₀ next₀ sets rows₀ r₀ square alike fresh next rows r = n * n + 4 - r
 
+enter-predecessors-requires : tie.Need-enter-predecessors-requires Inv-loop μ-loop
+enter-predecessors-requires c κs = (let rows = c .before .before .before .pre .0 in (rows, preceding-none (rows .symbols-most)))
+
 begin-requires : tie.Need-begin-requires Inv-loop μ-loop
 begin-requires c κs =
-    let s = c .before .before .before .before .before .before in
+    let s = c .before .before .before .before .before .before .before in
     let l : length (s .args .outputs .now) ≤ stateLimit = omega (arith, s .pre .0 .states-most, s .pre .1) in
     (l, begun-none l)
 
 loop-holds : tie.Need-loop-holds Inv-loop μ-loop
 loop-holds c =
     let c₅ = c .before .before .before .before .before in
-    let p = c₅ .before .before .pre in
+    let p = c₅ .before .before .before .pre in
     let b = c .begin .ensures in (
       search needs,
       record {
         small = p .0 .states-most;
         closed = next-of-rows (p .0);
         self = begun-self (p .1) b;
-        preceding = c .before .before .before .before .predecessors .ensures;
+        preceding = c .before .before .before .before .enter-predecessors .ensures;
       },
       begun-layer (p .1) b,
       empty-sets (p .0 .states-most),
@@ -57,8 +60,10 @@ few n m l = (let s : n * n ≤ squareSize = mul-le-mul m m in omega (arith, s, l
 
 spread-requires : tie.Need-spread-requires Inv-loop μ-loop
 spread-requires c κs =
-    let rows = c .before .before .before .before .before .before .before .before .before .before .before .before .before .before .before .pre .0 in
-    let l = few _ (rows .states-most) (c .before .before .before .before .before .before .before .loop .inv .0) in
+    let c₅ = c .before .before .before .before .before in
+    let c₁₀ = c₅ .before .before .before .before .before in
+    let rows = c₁₀ .before .before .before .before .before .before .pre .0 in
+    let l = few _ (rows .states-most) (c₅ .before .before .loop .inv .0) in
     (rows .symbols-most, omega (arith, l))
 
 add-spread : tie.Need-add-spread Inv-loop μ-loop
@@ -67,7 +72,7 @@ add-spread c =
     let c₁₀ = c₅ .before .before .before .before .before in
     let c₁₅ = c₁₀ .before .before .before .before .before in
     let c₂₀ = c₁₅ .before .before .before .before .before in
-    let rows = c₂₀ .before .pre .0 in
+    let rows = c₂₀ .before .before .pre .0 in
     let l = few _ (rows .states-most) (c₁₀ .before .before .before .loop .inv .0) in
     omega (arith, l)
 
@@ -77,7 +82,7 @@ spread-requires-2 c κs =
     let c₁₀ = c₅ .before .before .before .before .before in
     let c₁₅ = c₁₀ .before .before .before .before .before in
     let c₂₀ = c₁₅ .before .before .before .before .before in
-    let rows = c₂₀ .before .pre .0 in
+    let rows = c₂₀ .before .before .pre .0 in
     let l = few _ (rows .states-most) (c₁₀ .before .before .before .loop .inv .0) in
     (rows .symbols-most, omega (arith, l))
 
@@ -87,7 +92,7 @@ add-r c =
     let c₁₀ = c₅ .before .before .before .before .before in
     let c₁₅ = c₁₀ .before .before .before .before .before in
     let c₂₀ = c₁₅ .before .before .before .before .before in
-    let rows = c₂₀ .before .before .pre .0 in
+    let rows = c₂₀ .before .before .before .pre .0 in
     let l = few _ (rows .states-most) (c₁₀ .before .before .before .before .loop .inv .0) in
     omega (arith, l)
 
@@ -103,7 +108,7 @@ loop-again c =
     let c₁₀ = c₅ .before .before .before .before .before in
     let c₁₅ = c₁₀ .before .before .before .before .before in
     let c₂₀ = c₁₅ .before .before .before .before .before in
-    let s = c₂₀ .before .before in
+    let s = c₂₀ .before .before .before in
     let at = c₁₀ .before .before .before .before .loop in
     let fresh = empty-some _ (c₁₀ .before .before .before .is-empty .ensures) (not-true _ (c₁₀ .before .before .if1 .taken)) in
     let early = layer-early (at .inv .2) (at .inv .1 .closed) (fresh .0) (fresh .2) in
@@ -115,7 +120,7 @@ loop-again c =
 
 returns : tie.Need-returns Inv-loop μ-loop
 returns c =
-    let s = c .before .before .before .before .before .before .before .before .before .before in
+    let s = c .before .before .before .before .before .before .before .before .before .before .before in
     let at = c .before .before .loop in
     let small = s .pre .0 .states-most in
     let none = empty-none _ (c .before .is-empty .ensures) (not-false _ (c .if1 .left)) in
@@ -126,5 +131,5 @@ returns c =
 pub distances-spec : {M : Type 1} → statement M
 distances-spec =
     tie.close (tie.spec
-    Inv-loop μ-loop (λ c κs. search needs) begin-requires loop-holds (λ c κs. search needs) spread-requires add-spread
+    Inv-loop μ-loop enter-predecessors-requires begin-requires loop-holds (λ c κs. search needs) spread-requires add-spread
     spread-requires-2 add-r loop-less loop-again returns)
