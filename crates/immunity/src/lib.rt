@@ -136,7 +136,8 @@ fn card_of(marks: &[u8], nexts: &[u8], t: Shape) -> LinkCard
         states: t.states,
         monitorability: classes::monitorability_of(marks, nexts, t),
     };
-    let square = pairs::distances(nexts, t.states, t.symbols, marks, Test::Differ);
+    let mut square = pairs::blank();
+    pairs::enter_distances(&mut square, nexts, t.states, t.symbols, marks, Test::Differ);
     let columns = columns_of(marks, &square, nexts, t);
     LinkCard { summary, columns }
 }

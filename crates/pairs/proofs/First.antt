@@ -14,7 +14,7 @@ use Rattle.theory.proofs.Below.{clash, lt-or-le, or-cases, or-left, or-right, a
 use Rattle.pairs.specs.declared.Test.{Test}
 use Rattle.pairs.specs.declared.Test.the-variants.{Differ, Misread}
 use Rattle.pairs.specs.Square.{never, squareSize, place, entry, passes, passing, apartAtOnce}
-use Rattle.pairs.specs.Layers.{setAt, Put, Entered, Layer, Begun}
+use Rattle.pairs.specs.Layers.{setAt, Put, Entered, Layer, Blank, Begun}
 use Rattle.pairs.proofs.Layers.{kept-rows}
 
 -- an entry of 0 or never is 0 where the test says so
@@ -22,11 +22,14 @@ zero-where : (c : Bool) → eqb (cond c 0 never) 0 ≡ c
 zero-where true = refl
 zero-where false = refl
 
-pub begun-none : {test : Test} {outs : List ℕ} → length outs ≤ stateLimit
-    → Begun test outs 0 (replicate squareSize never) (replicate stateLimit 0) (replicate stateLimit 0) (λ q. false)
-begun-none small = record {
+pub blank-filled : Blank (replicate squareSize never)
+blank-filled = record { size = length-replicate {A = ℕ} squareSize never; filled = λ i l. getD-replicate {A = ℕ} squareSize i never 0 l }
+
+pub begun-none : {test : Test} {outs square : List ℕ} → length outs ≤ stateLimit → Blank square
+    → Begun test outs 0 square (replicate stateLimit 0) (replicate stateLimit 0) (λ q. false)
+begun-none small blank = record {
   kept = record {
-    size = length-replicate {A = ℕ} squareSize never;
+    size = blank .size;
     alike-size = length-replicate {A = ℕ} stateLimit 0;
     fresh-size = length-replicate {A = ℕ} stateLimit 0;
     alike-is = λ p q l. absurd (omega arith);
@@ -35,7 +38,7 @@ begun-none small = record {
     rows-all = λ p q l. absurd (omega arith);
   };
   done = λ x q l. absurd (omega arith);
-  rest = λ x q l lx lq. getD-replicate {A = ℕ} squareSize (place x q) never 0 (omega (arith, lx, lq, small));
+  rest = λ x q l lx lq. blank .filled (place x q) (omega (arith, lx, lq, small));
 }
 
 pub begun-rows : {test : Test} {outs : List ℕ} {p : ℕ} {square alike fresh : List ℕ} {rows rows′ : ℕ → Bool}

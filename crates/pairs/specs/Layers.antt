@@ -126,6 +126,11 @@ stateDone g x k q b = eqb (g .next q b) x && ltb b k
 
 -- ---- before the first round
 
+-- the square as it is filled: no pair is told apart
+pub record Blank (square : List ℕ) : Type 0 where
+  pub size : length square ≡ squareSize
+  pub filled : (i : ℕ) → i < squareSize → getD square i 0 ≡ never
+
 -- the rows below p hold 0 for the states that pass the test, and the others are as they were filled
 pub record Begun (test : Test) (outs : List ℕ) (p : ℕ) (square alike fresh : List ℕ) (rows : ℕ → Bool) : Type 0 where
   pub kept : Kept (length outs) 0 p square alike fresh rows

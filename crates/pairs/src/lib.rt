@@ -16,7 +16,7 @@ ghost use Rattle.theory.specs.Monitor.{stateLimit, symbolLimit};
 ghost use Rattle.state_set.specs.Member.{member};
 ghost use Rattle.monitor.specs.Format.{Rows, graph};
 ghost use Rattle.pairs.specs.Square.{never, squareSize, entry, Squared, passes, passing, nearer, Falling, apart};
-ghost use Rattle.pairs.specs.Layers.{setAt, Put, Empty, Preceding, upTo, Into, Entered, Begun};
+ghost use Rattle.pairs.specs.Layers.{setAt, Put, Empty, Preceding, upTo, Into, Entered, Blank, Begun};
 ghost use Rattle.pairs.specs.Layers.{Ground, Layer, GoesAt, rowDone, symbolDone, stateDone};
 
 // Not told apart. Any smaller number counts symbols.
@@ -391,34 +391,39 @@ fn begin(
     rows
 }
 
-// The distance of every two states: the fewest symbols after which their outputs pass the test. Round by round, until
-// no pair is fresh; the two arrays of fresh pairs take turns.
-pub fn distances(nexts: &[u8], n: usize, k: usize, outputs: &[u8], test: Test) -> [u16; SQUARE_SIZE]
-    requires { ⌜ Rows stateLimit n k (now nexts)
-        × (length (now outputs) ≡ n) ⌝ }
-    ensures { λ r. ⌜ Squared (graph n k (nexts .entry)) (passing test (now (outputs .entry))) r ⌝ }
+// The square filled with "not told apart".
+pub fn blank() -> [u16; SQUARE_SIZE]
+    ensures { λ r. ⌜ Blank r ⌝ }
 {
-    let mut square = [NEVER_ENTRY; SQUARE_SIZE];
+    [NEVER_ENTRY; SQUARE_SIZE]
+}
+
+// Enters the distance of every two states: the fewest symbols after which their outputs pass the test. Round by round,
+// until no pair is fresh; the two arrays of fresh pairs take turns.
+pub fn enter_distances(
+    square: &mut [u16; SQUARE_SIZE],
+    nexts: &[u8],
+    n: usize,
+    k: usize,
+    outputs: &[u8],
+    test: Test,
+)
+    requires { ⌜ Blank (now square)
+        × Rows stateLimit n k (now nexts)
+        × (length (now outputs) ≡ n) ⌝ }
+    ensures { λ _. ⌜ Squared (graph n k (nexts .entry)) (passing test (now (outputs .entry))) (now (square .exit)) ⌝ }
+{
     let mut alike = [0u64; STATE_LIMIT];
     let mut fresh = [0u64; STATE_LIMIT];
     let mut next = [0u64; STATE_LIMIT];
     let mut sets = [0u64; PREDECESSORS];
     enter_predecessors(&mut sets, nexts, n, k);
-    let mut rows = begin(&mut square, &mut alike, &mut fresh, outputs, test);
+    let mut rows = begin(square, &mut alike, &mut fresh, outputs, test);
     let mut r = 0u16;
     while !is_empty(rows) {
-        let found = spread(
-            &mut square,
-            &mut alike,
-            &mut fresh,
-            &mut next,
-            &sets,
-            k,
-            r,
-            rows,
-        );
+        let found = spread(square, &mut alike, &mut fresh, &mut next, &sets, k, r, rows);
         rows = spread(
-            &mut square,
+            square,
             &mut alike,
             &mut next,
             &mut fresh,
@@ -429,7 +434,6 @@ pub fn distances(nexts: &[u8], n: usize, k: usize, outputs: &[u8], test: Test) -
         );
         r += 2;
     }
-    square
 }
 
 // The lowest symbol that leads from p and q to a pair at `distance`, or the number of symbols.

@@ -189,7 +189,8 @@ fn search_reading(
     let mut outputs = [0u8; STATE_LIMIT];
     readings::write_readings(marks, nexts, t, domain, &mut outputs);
     let read = &outputs[..n];
-    let square = pairs::distances(nexts, n, t.symbols, read, test);
+    let mut square = pairs::blank();
+    pairs::enter_distances(&mut square, nexts, n, t.symbols, read, test);
     find_first(marks, read, &square, nexts, t, set, area)
 }
 

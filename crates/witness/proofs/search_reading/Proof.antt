@@ -12,39 +12,39 @@ use Rattle.witness.proofs.search_reading.Tie as tie
 slice-aggregate-read : tie.Need-slice-aggregate-read
 slice-aggregate-read c = filled-count _ _ _ (c .before .before .write-readings .ensures)
 
-distances-requires : tie.Need-distances-requires
-distances-requires c κs =
-    (c .before .before .before .before .before .before .before .pre .rows, sym (filled-count _ _ _ (c .before .before .write-readings .ensures)))
+enter-distances-requires : tie.Need-enter-distances-requires
+enter-distances-requires c κs =
+    let c₅ = c .before .before .before .before .before in
+    let w = c .before .before .before .before .write-readings .ensures in
+    (c .before .blank .ensures, c₅ .before .before .before .before .pre .rows, sym (filled-count _ _ _ w))
 
 find-first-requires : tie.Need-find-first-requires
 find-first-requires c κs =
     let c₅ = c .before .before .before .before .before in
-    let c₁₀ = c₅ .before .before .before .before .before in
-    let s = c₁₀ in
-    let p = s .pre in (
-      p,
-      table-posed p (p .rows) (s .args .test) (sym (filled-count _ _ _ (c₅ .write-readings .ensures))) (c .before .before .distances .ensures),
-    )
+    let s = c₅ .before .before .before .before .before .before .before in
+    let w = c₅ .before .before .write-readings .ensures in
+    let p = s .pre in
+    (p, table-posed p (p .rows) (s .args .test) (sym (filled-count _ _ _ w)) (c .before .before .enter-distances .ensures))
 
 returns : tie.Need-returns
 returns c =
     let c₅ = c .before .before .before .before .before in
     let c₁₀ = c₅ .before .before .before .before .before in
-    let s = c₁₀ .before .before .before in
+    let s = c₁₀ .before .before .before .before .before in
     let a = s .args in
-    let w = c₅ .before .before .before .write-readings in
+    let w = c₁₀ .write-readings in
     let m = monitorIn (a .t) (a .marks) (a .nexts) in
     let outs = take (a .t .states) (w .last .1 .1 .1 .1 .0) in
     let read = filled-read (a .t .states) (reading m (a .domain)) _ (w .ensures) in
-    let square = c₅ .distances in
+    let square = c₅ .enter-distances in
     let e = c .before .before .find-first .ensures in (
-      table-answer (s .pre) (a .test) (a .domain) (a .set .bits) outs (square .result) read (square .ensures) (length (a .area .now)) (e .0),
-      table-area (s .pre) (a .test) (a .domain) (a .set .bits) outs (square .result) read (square .ensures)
+      table-answer (s .pre) (a .test) (a .domain) (a .set .bits) outs (square .last .0) read (square .ensures) (length (a .area .now)) (e .0),
+      table-area (s .pre) (a .test) (a .domain) (a .set .bits) outs (square .last .0) read (square .ensures)
           (outcome (c .before .before .find-first .result)) (a .area .now) (e .1),
     )
 
 pub search-reading-spec : {M : Type 1} → statement M
 search-reading-spec =
     tie.close (tie.spec
-    (λ c. search needs) (λ c κs. search needs) (λ c. search needs) slice-aggregate-read distances-requires
-    find-first-requires (λ c. search needs) returns)
+    (λ c. search needs) (λ c κs. search needs) (λ c. search needs) slice-aggregate-read (λ c κs. search needs)
+    enter-distances-requires find-first-requires (λ c. search needs) returns)

@@ -1,4 +1,4 @@
--- `distances` meets its contract: before each round the square is that of r rounds, and a round with a fresh pair is one of the first n * n.
+-- `enter_distances` meets its contract: before each round the square is that of r rounds, and a round with a fresh pair is one of the first n * n.
 use mathlib.Core.Path.{_≡_, refl}
 use Prim.Native.Nat.{ℕ, suc, _+_, _*_, _-_, _≤_, _<_}
 use native.Mathlib.Nat.{mul-le-mul}
@@ -18,26 +18,26 @@ use Rattle.pairs.proofs.Gather.{empty-sets, preceding-none}
 use Rattle.pairs.proofs.Layers.{layer-early, layer-last}
 use Rattle.pairs.proofs.First.{begun-none, begun-passing, begun-self, begun-layer}
 use Rattle.pairs.proofs.Path.{squared-same}
-use Rattle.pairs.proofs.distances.Statement.{statement}
-use Rattle.pairs.proofs.distances.Tie as tie
+use Rattle.pairs.proofs.enter_distances.Statement.{statement}
+use Rattle.pairs.proofs.enter_distances.Tie as tie
 
 abbrev Inv-loop : tie.InvT-loop
-Inv-loop nexts n k outputs square₀ alike₀ fresh₀ next₀ sets rows₀ r₀ square alike fresh next rows r =
+Inv-loop square₀ nexts n k outputs alike₀ fresh₀ next₀ sets rows₀ r₀ square alike fresh next rows r =
     (r ≤ n * n + 2) × Ground (automatonOf n k nexts) (apartAtOnce square₀) sets
     × Layer (automatonOf n k nexts) (apartAtOnce square₀) r square alike fresh (member rows)
     × Empty n next
 
 abbrev μ-loop : tie.MeasureT-loop
-μ-loop nexts n k outputs square₀ alike₀ fresh₀ next₀ sets rows₀ r₀ square alike fresh next rows r = n * n + 4 - r
+μ-loop square₀ nexts n k outputs alike₀ fresh₀ next₀ sets rows₀ r₀ square alike fresh next rows r = n * n + 4 - r
 
 enter-predecessors-requires : tie.Need-enter-predecessors-requires Inv-loop μ-loop
-enter-predecessors-requires c κs = (let rows = c .before .before .before .pre .0 in (rows, preceding-none (rows .symbols-most)))
+enter-predecessors-requires c κs = (let rows = c .before .before .before .pre .1 in (rows, preceding-none (rows .symbols-most)))
 
 begin-requires : tie.Need-begin-requires Inv-loop μ-loop
 begin-requires c κs =
     let s = c .before .before .before .before .before .before .before in
-    let l : length (s .args .outputs .now) ≤ stateLimit = omega (arith, s .pre .0 .states-most, s .pre .1) in
-    (l, begun-none l)
+    let l : length (s .args .outputs .now) ≤ stateLimit = omega (arith, s .pre .1 .states-most, s .pre .2) in
+    (l, begun-none l (s .pre .0))
 
 loop-holds : tie.Need-loop-holds Inv-loop μ-loop
 loop-holds c =
@@ -46,13 +46,13 @@ loop-holds c =
     let b = c .begin .ensures in (
       search needs,
       record {
-        small = p .0 .states-most;
-        closed = next-of-rows (p .0);
-        self = begun-self (p .1) b;
+        small = p .1 .states-most;
+        closed = next-of-rows (p .1);
+        self = begun-self (p .2) b;
         preceding = c .before .before .before .before .enter-predecessors .ensures;
       },
-      begun-layer (p .1) b,
-      empty-sets (p .0 .states-most),
+      begun-layer (p .2) b,
+      empty-sets (p .1 .states-most),
     )
 
 few : (n : ℕ) {r : ℕ} → n ≤ stateLimit → r ≤ n * n + 2 → r < 4099
@@ -62,7 +62,7 @@ spread-requires : tie.Need-spread-requires Inv-loop μ-loop
 spread-requires c κs =
     let c₅ = c .before .before .before .before .before in
     let c₁₀ = c₅ .before .before .before .before .before in
-    let rows = c₁₀ .before .before .before .before .before .before .pre .0 in
+    let rows = c₁₀ .before .before .before .before .before .before .pre .1 in
     let l = few _ (rows .states-most) (c₅ .before .before .loop .inv .0) in
     (rows .symbols-most, omega (arith, l))
 
@@ -72,7 +72,7 @@ add-spread c =
     let c₁₀ = c₅ .before .before .before .before .before in
     let c₁₅ = c₁₀ .before .before .before .before .before in
     let c₂₀ = c₁₅ .before .before .before .before .before in
-    let rows = c₂₀ .before .before .pre .0 in
+    let rows = c₂₀ .before .before .pre .1 in
     let l = few _ (rows .states-most) (c₁₀ .before .before .before .loop .inv .0) in
     omega (arith, l)
 
@@ -82,7 +82,7 @@ spread-requires-2 c κs =
     let c₁₀ = c₅ .before .before .before .before .before in
     let c₁₅ = c₁₀ .before .before .before .before .before in
     let c₂₀ = c₁₅ .before .before .before .before .before in
-    let rows = c₂₀ .before .before .pre .0 in
+    let rows = c₂₀ .before .before .pre .1 in
     let l = few _ (rows .states-most) (c₁₀ .before .before .before .loop .inv .0) in
     (rows .symbols-most, omega (arith, l))
 
@@ -92,7 +92,7 @@ add-r c =
     let c₁₀ = c₅ .before .before .before .before .before in
     let c₁₅ = c₁₀ .before .before .before .before .before in
     let c₂₀ = c₁₅ .before .before .before .before .before in
-    let rows = c₂₀ .before .before .before .pre .0 in
+    let rows = c₂₀ .before .before .before .pre .1 in
     let l = few _ (rows .states-most) (c₁₀ .before .before .before .before .loop .inv .0) in
     omega (arith, l)
 
@@ -122,14 +122,14 @@ returns : tie.Need-returns Inv-loop μ-loop
 returns c =
     let s = c .before .before .before .before .before .before .before .before .before .before .before in
     let at = c .before .before .loop in
-    let small = s .pre .0 .states-most in
+    let small = s .pre .1 .states-most in
     let none = empty-none _ (c .before .is-empty .ensures) (not-false _ (c .if1 .left)) in
     let l = few _ small (at .inv .0) in
-    squared-same (next-of-rows (s .pre .0)) (begun-passing (s .pre .1) (c .before .before .before .begin .ensures))
-    (layer-last (at .inv .2) (next-of-rows (s .pre .0)) (λ p lp. none p (omega (arith, lp, small))) (omega (arith, l)))
+    squared-same (next-of-rows (s .pre .1)) (begun-passing (s .pre .2) (c .before .before .before .begin .ensures))
+    (layer-last (at .inv .2) (next-of-rows (s .pre .1)) (λ p lp. none p (omega (arith, lp, small))) (omega (arith, l)))
 
-pub distances-spec : {M : Type 1} → statement M
-distances-spec =
+pub enter-distances-spec : {M : Type 1} → statement M
+enter-distances-spec =
     tie.close (tie.spec
     Inv-loop μ-loop enter-predecessors-requires begin-requires loop-holds (λ c κs. search needs) spread-requires add-spread
     spread-requires-2 add-r loop-less loop-again returns)

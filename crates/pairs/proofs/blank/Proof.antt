@@ -1,0 +1,10 @@
+-- `blank` meets its contract.
+use Rattle.pairs.proofs.First.{blank-filled}
+use Rattle.pairs.proofs.blank.Statement.{statement}
+use Rattle.pairs.proofs.blank.Tie as tie
+
+returns : tie.Need-returns
+returns c = blank-filled
+
+pub blank-spec : {M : Type 1} → statement M
+blank-spec = tie.close (tie.spec returns)
