@@ -66,35 +66,30 @@ spread-requires c κs =
     let l = few _ (rows .states-most) (c₅ .before .before .loop .inv .0) in
     (rows .symbols-most, omega (arith, l))
 
-add-spread : tie.Need-add-spread Inv-loop μ-loop
-add-spread c =
+-- the second round of a turn is early, too
+early : (c : tie.After-sets3 Inv-loop μ-loop)
+    → (let c₅ = c .before .before .before .before .before in
+    let c₁₀ = c₅ .before .before .before .before .before in
+    c₁₀ .before .before .before .loop .r < 4099)
+early c =
     let c₅ = c .before .before .before .before .before in
     let c₁₀ = c₅ .before .before .before .before .before in
     let c₁₅ = c₁₀ .before .before .before .before .before in
-    let c₂₀ = c₁₅ .before .before .before .before .before in
-    let rows = c₂₀ .before .before .pre .1 in
-    let l = few _ (rows .states-most) (c₁₀ .before .before .before .loop .inv .0) in
-    omega (arith, l)
+    let rows = c₁₅ .before .before .before .before .before .before .before .pre .1 in
+    few _ (rows .states-most) (c₁₀ .before .before .before .loop .inv .0)
+
+add-spread : tie.Need-add-spread Inv-loop μ-loop
+add-spread c = (let l = early c in omega (arith, l))
 
 spread-requires-2 : tie.Need-spread-requires-2 Inv-loop μ-loop
 spread-requires-2 c κs =
-    let c₅ = c .before .before .before .before .before in
-    let c₁₀ = c₅ .before .before .before .before .before in
-    let c₁₅ = c₁₀ .before .before .before .before .before in
-    let c₂₀ = c₁₅ .before .before .before .before .before in
-    let rows = c₂₀ .before .before .pre .1 in
-    let l = few _ (rows .states-most) (c₁₀ .before .before .before .loop .inv .0) in
+    let c₁₀ = c .before .before .before .before .before .before .before .before .before .before in
+    let rows = c₁₀ .before .before .before .before .before .before .before .before .before .before .before .before .pre .1 in
+    let l = early c in
     (rows .symbols-most, omega (arith, l))
 
 add-r : tie.Need-add-r Inv-loop μ-loop
-add-r c =
-    let c₅ = c .before .before .before .before .before in
-    let c₁₀ = c₅ .before .before .before .before .before in
-    let c₁₅ = c₁₀ .before .before .before .before .before in
-    let c₂₀ = c₁₅ .before .before .before .before .before in
-    let rows = c₂₀ .before .before .before .pre .1 in
-    let l = few _ (rows .states-most) (c₁₀ .before .before .before .before .loop .inv .0) in
-    omega (arith, l)
+add-r c = (let l = early (c .before) in omega (arith, l))
 
 loop-less : tie.Need-loop-less Inv-loop μ-loop
 loop-less c =
