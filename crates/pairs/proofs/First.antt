@@ -1,20 +1,26 @@
--- The rows before the first round.
+-- The pass before the first round.
 use mathlib.Core.Path.{_≡_, refl, sym, _∙_}
-use mathlib.Core.Bool.{Bool, true, false, cond, not, _&&_, _||_}
+use mathlib.Core.Bool.{Bool, true, false, cond, not, _&&_, _||_, and-true, and-false, or-false}
 use mathlib.Core.List.{List}
 use mathlib.Core.Logic.{_⊎_, inl, inr, ⊎-elim}
-use Prim.Native.Nat.{ℕ, _+_, _≤_, _<_, zero-le}
+use Prim.Native.Nat.{ℕ, _+_, _*_, _-_, _≤_, _<_, zero-le}
+use native.Mathlib.Nat.{le-refl}
 use native.Mathlib.Omega.{arith}
+use lib.Arith.{digits-lt}
 use lib.Dec.{eqb, leb, ltb}
-use lib.ListN.{length, getD, replicate, length-replicate, getD-replicate}
-use borrow.Author.Tests.{eq-eqb, eqb-true, lt-ltb, le-ltb}
+use lib.ListN.{length, getD, set, replicate, length-replicate, getD-replicate}
+use borrow.Author.Tests.{eq-eqb, ne-eqb, eqb-true, eqb-false, lt-ltb, le-ltb, ltb-true}
 use Rattle.theory.specs.Monitor.{stateLimit}
 use Rattle.theory.specs.Pairs.{told}
-use Rattle.theory.proofs.Below.{clash, lt-or-le, or-cases, or-left, or-right, and-left, and-both}
+use Rattle.theory.proofs.Below.{clash, lt-or-le, or-right, and-left}
+use Rattle.pairs.specs.declared.Position.{Position}
 use Rattle.pairs.specs.declared.Test.{Test}
 use Rattle.pairs.specs.declared.Test.the-variants.{Differ, Misread}
 use Rattle.pairs.specs.Square.{never, squareSize, place, entry, passes, passing, apartAtOnce}
-use Rattle.pairs.specs.Layers.{setAt, Put, Entered, Layer, Blank, Begun}
+use Rattle.pairs.specs.Pass.{start, next}
+use Rattle.pairs.specs.Layers.{setAt, Put, Entered, Layer, Blank, Begun, PairBegun, RowDone}
+use Rattle.pairs.proofs.Pass.{row-is, column-is, On, on-start, on-next, on-over, on-numbered, on-row, on-column}
+use Rattle.pairs.proofs.Gather.{empty-at, entered-one}
 use Rattle.pairs.proofs.Layers.{kept-rows}
 
 -- an entry of 0 or never is 0 where the test says so
@@ -26,8 +32,8 @@ pub blank-filled : Blank (replicate squareSize never)
 blank-filled = record { size = length-replicate {A = ℕ} squareSize never; filled = λ i l. getD-replicate {A = ℕ} squareSize i never 0 l }
 
 pub begun-none : {test : Test} {outs square : List ℕ} → length outs ≤ stateLimit → Blank square
-    → Begun test outs 0 square (replicate stateLimit 0) (replicate stateLimit 0) (λ q. false)
-begun-none small blank = record {
+    → Begun test outs 0 0 square (replicate stateLimit 0) (replicate stateLimit 0) (λ q. false)
+begun-none {outs = outs} {square = square} small blank = record {
   kept = record {
     size = blank .size;
     alike-size = length-replicate {A = ℕ} stateLimit 0;
@@ -37,143 +43,262 @@ begun-none small blank = record {
     rows-some = λ p t. absurd (clash t refl);
     rows-all = λ p q l. absurd (omega arith);
   };
-  done = λ x q l. absurd (omega arith);
-  rest = λ x q l lx lq. blank .filled (place x q) (omega (arith, lx, lq, small));
+  entries = λ p q lp lq. filled p q lp lq ∙ rw (le-ltb (p * length outs + q) 0 zero-le);
+  noted = λ p q lp. empty-at stateLimit p q (omega (arith, lp, small)) ∙ ⊎-elim
+      (λ (lq : q < length outs). rw (lt-ltb q (length outs) lq, filled p q lp lq))
+      (λ out. rw (le-ltb q (length outs) out))
+      (lt-or-le q (length outs));
 }
+  where
+    filled : (p q : ℕ) → p < length outs → q < length outs → entry square p q ≡ never
+    filled p q lp lq = blank .filled (place p q) (omega (arith, lp, lq, small))
 
-pub begun-rows : {test : Test} {outs : List ℕ} {p : ℕ} {square alike fresh : List ℕ} {rows rows′ : ℕ → Bool}
-    → Begun test outs p square alike fresh rows → ((q : ℕ) → rows′ q ≡ rows q) → Begun test outs p square alike fresh rows′
-begun-rows b e = record { kept = kept-rows (b .kept) e; done = b .done; rest = b .rest }
+begun-rows : {test : Test} {outs : List ℕ} {row number : ℕ} {square alike fresh : List ℕ} {rows rows′ : ℕ → Bool}
+    → Begun test outs row number square alike fresh rows → ((q : ℕ) → rows′ q ≡ rows q) → Begun test outs row number square alike fresh rows′
+begun-rows b e = record { kept = kept-rows (b .kept) e; entries = b .entries; noted = b .noted }
 
--- ---- one row more
+-- ---- what is done for a pair, and at the end of a row
 
-module _ {test : Test} {outs : List ℕ} (small : length outs ≤ stateLimit) {p : ℕ} (lp : p < length outs) {square alike fresh : List ℕ} {rows : ℕ → Bool}
-    (b : Begun test outs p square alike fresh rows) {apart : ℕ → Bool} (is : (q : ℕ) → apart q ≡ (ltb q (length outs) && passing test outs p q))
-    {alike′ fresh′ square′ : List ℕ} (left : ℕ → Bool) (il : (q : ℕ) → left q ≡ ((ltb q (length outs) && not (apart q)) && not (eqb q p && ltb p stateLimit)))
-    (A : Put alike p left alike′) (X : Put fresh p apart fresh′) (E : Entered square p apart 0 square′) where
+module _ {test : Test} {outs : List ℕ} {p q : ℕ} {square fresh : List ℕ} where
+  -- the test tells the pair apart
+  pub pair-apart : passing test outs p q ≡ true → length square ≡ squareSize → p < stateLimit → q < stateLimit → {fresh′ : List ℕ} {with : ℕ → Bool}
+      → ((x : ℕ) → with x ≡ (setAt fresh p x || (eqb x q && ltb q stateLimit))) → Put fresh p with fresh′
+      → PairBegun test outs p q square fresh (set square (place p q) 0) fresh′
+  pair-apart says size lp lq is P = record {
+    entered = record {
+      size = one .size;
+      here = λ x lx. one .here x lx ∙ rw (says, and-true (eqb x q));
+      elsewhere = one .elsewhere;
+    };
+    noted = record { size = P .size; here = λ x. P .here x ∙ is x ∙ rw (says, lt-ltb q stateLimit lq); elsewhere = P .elsewhere };
+  }
+    where
+      one : Entered square p (λ x. eqb x q) 0 (set square (place p q) 0)
+      one = entered-one square p q 0 size lp lq
+
+  -- it does not
+  pub pair-alike : passing test outs p q ≡ false → PairBegun test outs p q square fresh square fresh
+  pair-alike says = record {
+    entered = record { size = refl; here = λ x lx. rw (says, and-false (eqb x q)); elsewhere = λ x y lx ly ne. refl };
+    noted = record { size = refl; here = λ x. rw (says, and-false (eqb x q)) (sym (or-false (setAt fresh p x))); elsewhere = λ j x ne. refl };
+  }
+
+module _ (n : ℕ) {p : ℕ} (fresh : List ℕ) {alike alike′ : List ℕ} {apart left : ℕ → Bool} (lp : p < stateLimit) (is : (q : ℕ) → apart q ≡ setAt fresh p q)
+    (il : (q : ℕ) → left q ≡ ((ltb q n && not (apart q)) && not (eqb q p && ltb p stateLimit))) (P : Put alike p left alike′) where
+  others : Put alike p (λ q. (ltb q n && not (setAt fresh p q)) && not (eqb q p)) alike′
+  others = record {
+    size = P .size;
+    here = λ q. P .here q ∙ il q ∙ rw (is q, lt-ltb p stateLimit lp, and-true (eqb q p));
+    elsewhere = P .elsewhere;
+  }
+
+  -- no state is fresh
+  pub row-quiet : {rows : ℕ → Bool} → ((q : ℕ) → q < stateLimit → apart q ≡ false) → RowDone n p fresh alike rows alike′ rows
+  row-quiet none = record { others = others; same = λ x ne. refl; some = inl; all = λ q lq t. absurd (clash (is q ∙ t) (none q lq)) }
+
+  -- some state is
+  pub row-fresh : {rows : ℕ → Bool} → (q : ℕ) × (q < stateLimit) × (apart q ≡ true)
+      → {rows′ : ℕ → Bool} → ((x : ℕ) → rows′ x ≡ (rows x || (eqb x p && ltb p stateLimit))) → RowDone n p fresh alike rows alike′ rows′
+  row-fresh {rows} found R = record {
+    others = others;
+    same = λ x ne. R x ∙ rw (ne-eqb x p ne) (or-false (rows x));
+    some = λ t. inr (found .0, sym (is (found .0)) ∙ found .2);
+    all = λ q lq t. R p ∙ rw (eq-eqb p p refl, lt-ltb p stateLimit lp) (or-right (rows p) true refl);
+  }
+
+-- ---- one pair more, one row more
+
+same-or-not : (x y : ℕ) → (x ≡ y) ⊎ (x ≡ y → ⊥)
+same-or-not x y = go (eqb x y) refl
+  where
+    go : (c : Bool) → eqb x y ≡ c → (x ≡ y) ⊎ (x ≡ y → ⊥)
+    go true h = inl (eqb-true x y h)
+    go false h = inr (eqb-false x y h)
+
+module _ {test : Test} {outs : List ℕ} (small : length outs ≤ stateLimit) {p k : ℕ} (lp : p < length outs) {square alike fresh : List ℕ} {rows : ℕ → Bool}
+    (b : Begun test outs p k square alike fresh rows) where
   abbrev n : ℕ
   n = length outs
 
-  low : p < stateLimit
-  low = omega (arith, lp, small)
+  -- the pair p q, which is pair k of the pass
+  module _ {q : ℕ} (lq : q < n) (is : p * n + q ≡ k) {square′ fresh′ : List ℕ} (P : PairBegun test outs p q square fresh square′ fresh′) where
+    -- of the entries and the fresh states, only those of the pair change
+    entry-kept : (x y : ℕ) → x < n → y < n → (x ≡ p → y ≡ q → ⊥) → entry square′ x y ≡ entry square x y
+    entry-kept x y lx ly ne =
+        ⊎-elim
+        (λ (e : x ≡ p). rw e (P .entered .here y (omega (arith, ly, small)) ∙ rw (ne-eqb y q (ne e))))
+        (P .entered .elsewhere x y (omega (arith, lx, small)) (omega (arith, ly, small)))
+        (same-or-not x p)
 
-  -- the entries of row p, and of the rows before
-  here : (q : ℕ) → q < n → entry square′ p q ≡ cond (apart q) 0 never
-  here q lq = E .here q (omega (arith, lq, small)) ∙ rw (b .rest p q (omega arith) lp (omega (arith, lq, small)))
+    fresh-kept : (x y : ℕ) → (x ≡ p → y ≡ q → ⊥) → setAt fresh′ x y ≡ setAt fresh x y
+    fresh-kept x y ne =
+        ⊎-elim
+        (λ (e : x ≡ p). rw e (P .noted .here y ∙ rw (ne-eqb y q (ne e)) (or-false (setAt fresh p y))))
+        (P .noted .elsewhere x y)
+        (same-or-not x p)
 
-  elsewhere : (x q : ℕ) → x < n → q < n → (x ≡ p → ⊥) → entry square′ x q ≡ entry square x q
-  elsewhere x q lx lq = E .elsewhere x q (omega (arith, lx, small)) (omega (arith, lq, small))
+    entries-after : (x y : ℕ) → x < n → y < n → entry square′ x y ≡ cond (ltb (x * n + y) (k + 1) && passing test outs x y) 0 never
+    entries-after x y lx ly =
+        ⊎-elim
+        (λ (e : x * n + y ≡ k).
+        let ex = row-is x p ly lq (e ∙ sym is) in
+        let ey = column-is x p ly lq (e ∙ sym is) in
+        rw (ex, ey) (P .entered .here q (omega (arith, lq, small))
+        ∙ rw (b .entries p q lp lq, is, eq-eqb q q refl, lt-ltb k (k + 1) (omega arith), le-ltb k k (le-refl k))))
+        (λ (ne : x * n + y ≡ k → ⊥). entry-kept x y lx ly (λ ex ey. ne (rw (ex, ey) is)) ∙ b .entries x y lx ly ∙ rw (other ne))
+        (same-or-not (x * n + y) k)
+      where
+        other : {i : ℕ} → (i ≡ k → ⊥) → ltb i k ≡ ltb i (k + 1)
+        other {i} ne =
+            ⊎-elim
+            (λ (l : i < k). rw (lt-ltb i k l, lt-ltb i (k + 1) (omega arith)))
+            (λ l. ⊎-elim
+            (λ (m : k < i). rw (le-ltb i k l, le-ltb i (k + 1) (omega arith)))
+            (λ m. absurd (ne (omega arith)))
+            (lt-or-le k i))
+            (lt-or-le i k)
 
-  alike-after : (x q : ℕ) → x < p + 1 → setAt alike′ x q ≡ ((ltb q n && not (eqb q x)) && eqb (entry square′ x q) never)
-  alike-after x q l =
-      ⊎-elim
-      (λ (lx : x < p).
-      let ne : (x ≡ p) → ⊥ = λ e. omega (arith, e, lx) in
-      A .elsewhere x q ne ∙ b .kept .alike-is x q lx
-      ∙ ⊎-elim
-      (λ (lq : q < n). rw (elsewhere x q (omega (arith, lx, lp)) lq ne))
-      (λ out. rw (le-ltb q n out))
-      (lt-or-le q n))
-      (λ lx.
-      let e : x ≡ p = omega (arith, l, lx) in
-      rw e (A .here q ∙ il q
-      ∙ ⊎-elim
-      (λ (lq : q < n). rw (lt-ltb q n lq, here q lq, lt-ltb p stateLimit low) (go (apart q) (eqb q p)))
-      (λ out. rw (le-ltb q n out))
-      (lt-or-le q n)))
-      (lt-or-le x p)
-    where
-      go : (c d : Bool) → (not c && not (d && true)) ≡ (not d && eqb (cond c 0 never) never)
-      go true true = refl
-      go true false = refl
-      go false true = refl
-      go false false = refl
+    noted-after : (x y : ℕ) → x < n → setAt fresh′ x y ≡ (ltb y n && eqb (entry square′ x y) 0)
+    noted-after x y lx =
+        ⊎-elim
+        (λ (e : x ≡ p). ⊎-elim
+        (λ (ey : y ≡ q). rw (e, ey) (P .noted .here q
+        ∙ rw (b .noted p q lp, lt-ltb q n lq, b .entries p q lp lq, is, le-ltb k k (le-refl k), eq-eqb q q refl)
+        (sym (zero-where (passing test outs p q)) ∙ rw (entries-after p q lp lq, is, lt-ltb k (k + 1) (omega arith)))))
+        (λ (ne : y ≡ q → ⊥). kept-there (λ _. ne))
+        (same-or-not y q))
+        (λ (ne : x ≡ p → ⊥). kept-there (λ e. absurd (ne e)))
+        (same-or-not x p)
+      where
+        kept-there : (x ≡ p → y ≡ q → ⊥) → setAt fresh′ x y ≡ (ltb y n && eqb (entry square′ x y) 0)
+        kept-there ne =
+            fresh-kept x y ne ∙ b .noted x y lx ∙ ⊎-elim
+            (λ (ly : y < n). rw (entry-kept x y lx ly ne))
+            (λ out. rw (le-ltb y n out))
+            (lt-or-le y n)
 
-  fresh-after : (x q : ℕ) → x < p + 1 → setAt fresh′ x q ≡ (ltb q n && eqb (entry square′ x q) 0)
-  fresh-after x q l =
-      ⊎-elim
-      (λ (lx : x < p).
-      let ne : (x ≡ p) → ⊥ = λ e. omega (arith, e, lx) in
-      X .elsewhere x q ne ∙ b .kept .fresh-is x q lx
-      ∙ ⊎-elim
-      (λ (lq : q < n). rw (elsewhere x q (omega (arith, lx, lp)) lq ne))
-      (λ out. rw (le-ltb q n out))
-      (lt-or-le q n))
-      (λ lx.
-      let e : x ≡ p = omega (arith, l, lx) in
-      rw e (X .here q
-      ∙ ⊎-elim
-      (λ (lq : q < n). rw (lt-ltb q n lq, here q lq) (sym (zero-where (apart q))))
-      (λ out. is q ∙ rw (le-ltb q n out))
-      (lt-or-le q n)))
-      (lt-or-le x p)
+    pub begun-pair : Begun test outs p (k + 1) square′ alike fresh′ rows
+    begun-pair = record {
+      kept = record {
+        size = P .entered .size ∙ b .kept .size;
+        alike-size = b .kept .alike-size;
+        fresh-size = P .noted .size ∙ b .kept .fresh-size;
+        alike-is = λ x y l. b .kept .alike-is x y l ∙ ⊎-elim
+            (λ (ly : y < n). rw (entry-kept x y (omega (arith, l, lp)) ly (λ e. absurd (omega (arith, e, l)))))
+            (λ out. rw (le-ltb y n out))
+            (lt-or-le y n);
+        fresh-is = λ x y l. noted-after x y (omega (arith, l, lp));
+        rows-some = λ x t.
+            let s = b .kept .rows-some x t in
+            let l = s .0 in
+            (l, (s .1 .0, fresh-kept x (s .1 .0) (λ e. absurd (omega (arith, e, l))) ∙ s .1 .1));
+        rows-all = λ x y l t. b .kept .rows-all x y l (sym (fresh-kept x y (λ e. absurd (omega (arith, e, l)))) ∙ t);
+      };
+      entries = entries-after;
+      noted = noted-after;
+    }
 
-  rest-after : (x q : ℕ) → p + 1 ≤ x → x < n → q < stateLimit → entry square′ x q ≡ never
-  rest-after x q l lx lq = E .elsewhere x q (omega (arith, lx, small)) lq (λ e. omega (arith, e, l)) ∙ b .rest x q (omega (arith, l)) lx lq
+  -- the end of row p
+  module _ {alike′ : List ℕ} {rows′ : ℕ → Bool} (R : RowDone n p fresh alike rows alike′ rows′) where
+    below : {x : ℕ} → x < p + 1 → (x ≡ p → ⊥) → x < p
+    below {x} l ne = ⊎-elim (λ (h : x < p). h) (λ h. absurd (ne (omega (arith, h, l)))) (lt-or-le x p)
 
-  done-after : (x q : ℕ) → x < p + 1 → q < n → entry square′ x q ≡ cond (passing test outs x q) 0 never
-  done-after x q l lq =
-      ⊎-elim
-      (λ (lx : x < p). elsewhere x q (omega (arith, lx, lp)) lq (λ e. omega (arith, e, lx)) ∙ b .done x q lx lq)
-      (λ lx. (let e : x ≡ p = omega (arith, l, lx) in rw e (here q lq ∙ rw (is q, lt-ltb q n lq))))
-      (lt-or-le x p)
+    alike-here : (q : ℕ) → setAt alike′ p q ≡ ((ltb q n && not (eqb q p)) && eqb (entry square p q) never)
+    alike-here q =
+        R .others .here q ∙ rw (b .noted p q lp)
+        (⊎-elim
+        (λ (lq : q < n). rw (lt-ltb q n lq, b .entries p q lp lq) (go (ltb (p * n + q) k && passing test outs p q) (eqb q p)))
+        (λ out. rw (le-ltb q n out))
+        (lt-or-le q n))
+      where
+        go : (c d : Bool) → (not (eqb (cond c 0 never) 0) && not d) ≡ (not d && eqb (cond c 0 never) never)
+        go true true = refl
+        go true false = refl
+        go false true = refl
+        go false false = refl
 
-  fresh-before : (x q : ℕ) → x < p → setAt fresh x q ≡ true → setAt fresh′ x q ≡ true
-  fresh-before x q lx t = X .elsewhere x q (λ e. omega (arith, e, lx)) ∙ t
+    some-after : (x : ℕ) → rows′ x ≡ true → (x < p + 1) × ((q : ℕ) × (setAt fresh x q ≡ true))
+    some-after x t =
+        ⊎-elim
+        (λ (e : x ≡ p). rw e ((
+          omega arith,
+          ⊎-elim
+              (λ h. absurd (let l = b .kept .rows-some p h .0 in omega (arith, l)))
+              (λ found. found)
+              (R .some (rw e at t)),
+        )))
+        (λ ne. (let s = b .kept .rows-some x (sym (R .same x ne) ∙ t) in let l = s .0 in (omega (arith, l), s .1)))
+        (same-or-not x p)
 
-  begun-with : {rows′ : ℕ → Bool} → ((x : ℕ) → rows′ x ≡ true → (x < p + 1) × ((q : ℕ) × (setAt fresh′ x q ≡ true)))
-      → ((x q : ℕ) → x < p + 1 → setAt fresh′ x q ≡ true → rows′ x ≡ true) → Begun test outs (p + 1) square′ alike′ fresh′ rows′
-  begun-with some all = record {
-    kept = record {
-      size = E .size ∙ b .kept .size;
-      alike-size = A .size ∙ b .kept .alike-size;
-      fresh-size = X .size ∙ b .kept .fresh-size;
-      alike-is = alike-after;
-      fresh-is = fresh-after;
-      rows-some = some;
-      rows-all = all;
-    };
-    done = done-after;
-    rest = rest-after;
-  }
+    all-after : (x q : ℕ) → x < p + 1 → setAt fresh x q ≡ true → rows′ x ≡ true
+    all-after x q l t =
+        ⊎-elim
+        (λ (e : x ≡ p).
+        let h = rw e at t in
+        let lq = ltb-true q n (and-left (ltb q n) (eqb (entry square p q) 0) (sym (b .noted p q lp) ∙ h)) in
+        rw e (R .all q (omega (arith, lq, small)) h))
+        (λ ne. R .same x ne ∙ b .kept .rows-all x q (below l ne) t)
+        (same-or-not x p)
 
-  before-some : (x : ℕ) → rows x ≡ true → (x < p + 1) × ((q : ℕ) × (setAt fresh′ x q ≡ true))
-  before-some x t =
-      let s = b .kept .rows-some x t in
-      let l = s .0 in
-      (omega (arith, l), (s .1 .0, fresh-before x (s .1 .0) l (s .1 .1)))
+    pub begun-row : Begun test outs (p + 1) k square alike′ fresh rows′
+    begun-row = record {
+      kept = record {
+        size = b .kept .size;
+        alike-size = R .others .size ∙ b .kept .alike-size;
+        fresh-size = b .kept .fresh-size;
+        alike-is = λ x q l. ⊎-elim
+            (λ (e : x ≡ p). rw e (alike-here q))
+            (λ ne. R .others .elsewhere x q ne ∙ b .kept .alike-is x q (below l ne))
+            (same-or-not x p);
+        fresh-is = λ x q l. b .noted x q (omega (arith, l, lp));
+        rows-some = some-after;
+        rows-all = all-after;
+      };
+      entries = b .entries;
+      noted = b .noted;
+    }
 
-  before-all : (x q : ℕ) → x < p → setAt fresh′ x q ≡ true → rows x ≡ true
-  before-all x q lx t = b .kept .rows-all x q lx (sym (X .elsewhere x q (λ e. omega (arith, e, lx))) ∙ t)
+-- ---- the pass
 
-  -- no state is told apart from p at once
-  pub begun-quiet : ((q : ℕ) → q < stateLimit → apart q ≡ false) → Begun test outs (p + 1) square′ alike′ fresh′ rows
-  begun-quiet none = begun-with before-some (λ x q l t. ⊎-elim
-      (λ (lx : x < p). before-all x q lx t)
-      (λ lx.
-      let e : x ≡ p = omega (arith, l, lx) in
-      let h = sym (X .here q) ∙ rw e at t in
-      ⊎-elim
-      (λ (lq : q < stateLimit). absurd (clash h (none q lq)))
-      (λ out. absurd (clash (and-left (ltb q n) (passing test outs p q) (sym (is q) ∙ h)) (le-ltb q n (omega (arith, out, small)))))
-      (lt-or-le q stateLimit))
-      (lt-or-le x p))
+-- a pass that is at a pair, and has done the pairs and the rows before it
+pub record Walking (test : Test) (outs : List ℕ) (at : Position) (square alike fresh : List ℕ) (rows : ℕ → Bool) : Type 0 where
+  pub most : at .number ≤ length outs * length outs
+  pub on : On (length outs) at
+  pub begun : Begun test outs (at .row) (at .number) square alike fresh rows
 
-  -- some state is
-  pub begun-row : {rows′ : ℕ → Bool} → (q : ℕ) × (q < stateLimit) × (apart q ≡ true) → ((q : ℕ) → rows′ q ≡ (rows q || (eqb q p && ltb p stateLimit)))
-      → Begun test outs (p + 1) square′ alike′ fresh′ rows′
-  begun-row {rows′} some R = begun-with
-      (λ x t. ⊎-elim
-      (before-some x)
-      (λ h.
-      let e = eqb-true x p (and-left (eqb x p) (ltb p stateLimit) h) in
-      (omega (arith, e), (some .0, rw e (X .here (some .0) ∙ some .2))))
-      (or-cases (rows x) (eqb x p && ltb p stateLimit) (sym (R x) ∙ t)))
-      (λ x q l t. R x ∙ ⊎-elim
-      (λ (lx : x < p). or-left (rows x) (eqb x p && ltb p stateLimit) (before-all x q lx t))
-      (λ lx. or-right (rows x) (eqb x p && ltb p stateLimit)
-      (and-both (eqb x p) (ltb p stateLimit) (eq-eqb x p (omega (arith, l, lx))) (lt-ltb p stateLimit low)))
-      (lt-or-le x p))
+pub walking-none : {test : Test} {outs square alike fresh : List ℕ} {rows rows′ : ℕ → Bool} {at : Position} → Begun test outs 0 0 square alike fresh rows
+    → at ≡ start → ((q : ℕ) → rows′ q ≡ rows q) → Walking test outs at square alike fresh rows′
+walking-none b e same = rw e (record { most = zero-le; on = on-start; begun = begun-rows b same })
+
+module _ {test : Test} {outs : List ℕ} {at : Position} {square alike fresh : List ℕ} {rows : ℕ → Bool} (W : Walking test outs at square alike fresh rows) where
+  pub walking-over : length outs * length outs ≤ at .number → Begun test outs (length outs) (length outs * length outs) square alike fresh rows
+  walking-over l =
+      let m = W .most in
+      let e : at .number ≡ length outs * length outs = omega (arith, l, m) in
+      rw (on-over (W .on) e, e) at (W .begun)
+
+  -- fewer pairs are left after a step
+  pub walking-less : at .number < length outs * length outs → {after : Position} → after ≡ next (length outs) at
+      → length outs * length outs - after .number < length outs * length outs - at .number
+  walking-less l e = rw e (omega (arith, l))
+
+  module _ (small : length outs ≤ stateLimit) (l : at .number < length outs * length outs) {square′ fresh′ : List ℕ}
+      (P : PairBegun test outs (at .row) (at .column) square fresh square′ fresh′) {after : Position} (f : after ≡ next (length outs) at) where
+    more : Begun test outs (at .row) (at .number + 1) square′ alike fresh′ rows
+    more = begun-pair small (on-row (W .on) l) (W .begun) (on-column (W .on) l) (on-numbered (W .on) l) P
+
+    -- along the row
+    pub walking-along : (at .column + 1 ≡ length outs → ⊥) → Walking test outs after square′ alike fresh′ rows
+    walking-along ne = rw f (record { most = omega (arith, l); on = on-next (W .on); begun = rw (ne-eqb (at .column + 1) (length outs) ne) more })
+
+    -- to the next row
+    pub walking-down : at .column + 1 ≡ length outs → {alike′ : List ℕ} {rows′ : ℕ → Bool} → RowDone (length outs) (at .row) fresh′ alike rows alike′ rows′
+        → Walking test outs after square′ alike′ fresh′ rows′
+    walking-down e R = rw f (record {
+      most = omega (arith, l);
+      on = on-next (W .on);
+      begun = rw (eq-eqb (at .column + 1) (length outs) e) (begun-row small (on-row (W .on) l) more R);
+    })
 
 -- no state passes the test with itself
 passes-self : (test : Test) (x : ℕ) → passes test x x ≡ false
@@ -184,13 +309,19 @@ passes-self (Misread v) x = go (eqb x v)
     go true = refl
     go false = refl
 
--- ---- all rows
+-- ---- all pairs
 
 module _ {n : ℕ} {test : Test} {outs square alike fresh : List ℕ} {rows : ℕ → Bool} (e : length outs ≡ n)
-    (b : Begun test outs (length outs) square alike fresh rows) where
+    (b : Begun test outs (length outs) (length outs * length outs) square alike fresh rows) where
+  done : (p q : ℕ) → p < n → q < n → entry square p q ≡ cond (passing test outs p q) 0 never
+  done p q lp lq =
+      let lp′ : p < length outs = omega (arith, lp, e) in
+      let lq′ : q < length outs = omega (arith, lq, e) in
+      b .entries p q lp′ lq′ ∙ rw (lt-ltb (p * length outs + q) (length outs * length outs) (digits-lt lp′ lq′))
+
   -- the pairs at 0 are those that pass the test
   pub begun-passing : (p q : ℕ) → p < n → q < n → apartAtOnce square p q ≡ passing test outs p q
-  begun-passing p q lp lq = rw (b .done p q (omega (arith, lp, e)) (omega (arith, lq, e))) (zero-where (passing test outs p q))
+  begun-passing p q lp lq = rw (done p q lp lq) (zero-where (passing test outs p q))
 
   pub begun-self : (p : ℕ) → p < n → apartAtOnce square p p ≡ false
   begun-self p lp = begun-passing p p lp lp ∙ passes-self test (getD outs p 0)
@@ -200,12 +331,10 @@ module _ {n : ℕ} {test : Test} {outs square alike fresh : List ℕ} {rows : �
   unfolding told
   begun-layer = record {
     kept = rw e at (b .kept);
-    stage = λ p q lp lq.
-        let h = b .done p q (omega (arith, lp, e)) (omega (arith, lq, e)) in
-        record {
-          agrees = λ s l. (let z : s ≡ 0 = omega (arith, l) in rw (z, h) (at-zero (passing test outs p q)));
-          known = rw h (either (passing test outs p q));
-        };
+    stage = λ p q lp lq. record {
+      agrees = λ s l. (let z : s ≡ 0 = omega (arith, l) in rw (z, done p q lp lq) (at-zero (passing test outs p q)));
+      known = rw (done p q lp lq) (either (passing test outs p q));
+    };
   }
     where
       at-zero : (c : Bool) → eqb (cond c 0 never) 0 ≡ leb (cond c 0 never) 0

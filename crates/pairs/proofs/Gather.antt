@@ -1,6 +1,6 @@
--- Sets gathered state by state: by a test, of predecessors, and what leads into a set; entries of a row made one by one.
+-- Sets gathered state by state: all below a number, predecessors, and what leads into a set; entries of a row made one by one.
 use mathlib.Core.Path.{_≡_, refl, sym, ap, _∙_}
-use mathlib.Core.Bool.{Bool, true, false, cond, not, _&&_, _||_, and-true, and-false, or-false}
+use mathlib.Core.Bool.{Bool, true, false, cond, not, _&&_, _||_, and-false, or-false}
 use mathlib.Core.List.{List}
 use mathlib.Core.Logic.{⊎-elim}
 use Prim.Native.Nat.{ℕ, _+_, _*_, _≤_, _<_, zero-le}
@@ -13,56 +13,33 @@ use borrow.Author.Tests.{eq-eqb, ne-eqb, eqb-true, eqb-false, lt-ltb, le-ltb}
 use Rattle.theory.specs.Below.{first}
 use Rattle.theory.specs.Automaton.{Automaton, Closed}
 use Rattle.theory.specs.Monitor.{stateLimit, symbolLimit}
-use Rattle.theory.proofs.Below.{lt-or-le}
+use Rattle.theory.proofs.Below.{clash, lt-or-le}
 use Rattle.theory.proofs.Bits.{bit-empty}
 use Rattle.state_set.specs.Member.{inWord}
 use Rattle.pairs.specs.Square.{squareSize, place, entry}
 use Rattle.pairs.specs.Layers.{setAt, Put, Empty, Preceding, upTo, Into, Entered}
 use Rattle.pairs.proofs.Visit.{lowest-in, lowest-none}
 
--- ---- by a test
+-- ---- the states below a number
 
--- the states below q that pass the test
-pub record Gathered (test : ℕ → Bool) (q : ℕ) (f : ℕ → Bool) : Type 0 where
-  pub at : (x : ℕ) → f x ≡ (ltb x q && test x)
+pub record Below (q : ℕ) (f : ℕ → Bool) : Type 0 where
+  pub at : (x : ℕ) → f x ≡ ltb x q
 
-module _ {test f : ℕ → Bool} where
-  pub gathered-none : ((x : ℕ) → f x ≡ false) → Gathered test 0 f
-  gathered-none none = record { at = λ x. none x ∙ rw (le-ltb x 0 zero-le) }
+pub below-none : {f : ℕ → Bool} → ((x : ℕ) → f x ≡ false) → Below 0 f
+below-none none = record { at = λ x. none x ∙ rw (le-ltb x 0 zero-le) }
 
-  module _ {q : ℕ} (G : Gathered test q f) where
-    pub gathered-yes : {h : ℕ → Bool} → q < stateLimit → test q ≡ true → ((x : ℕ) → h x ≡ (f x || (eqb x q && ltb q stateLimit))) → Gathered test (q + 1) h
-    gathered-yes {h} l t is = record {
-      at = λ x.
-          is x ∙ rw (G .at x, lt-ltb q stateLimit l)
-          (⊎-elim
-          (λ (b : x < q). rw (lt-ltb x q b, lt-ltb x (q + 1) (omega arith), ne-eqb x q (λ e. omega arith)) (or-false (test x)))
-          (λ b. ⊎-elim
-          (λ (c : q < x). rw (le-ltb x q b, le-ltb x (q + 1) (omega arith), ne-eqb x q (λ e. omega arith)))
-          (λ c. (let e : x ≡ q = omega arith in rw e (rw (le-ltb q q (le-refl q), lt-ltb q (q + 1) (omega arith), eq-eqb q q refl, t))))
-          (lt-or-le q x))
-          (lt-or-le x q));
-    }
-
-    pub gathered-no : {h : ℕ → Bool} → test q ≡ false → ((x : ℕ) → h x ≡ f x) → Gathered test (q + 1) h
-    gathered-no {h} t is = record {
-      at = λ x.
-          is x ∙ G .at x
-          ∙ ⊎-elim
-          (λ (b : x < q). rw (lt-ltb x q b, lt-ltb x (q + 1) (omega arith)))
-          (λ b. ⊎-elim
-          (λ (c : q < x). rw (le-ltb x q b, le-ltb x (q + 1) (omega arith)))
-          (λ c. (let e : x ≡ q = omega arith in rw e (rw (le-ltb q q (le-refl q), lt-ltb q (q + 1) (omega arith), t))))
-          (lt-or-le q x))
-          (lt-or-le x q);
-    }
-
--- all states below n
-pub gathered-below : {n q : ℕ} {f : ℕ → Bool} → Gathered (λ x. true) q f → q ≤ n → n ≤ q → (x : ℕ) → f x ≡ ltb x n
-gathered-below {n} {q} G l m x = (let e : q ≡ n = omega arith in G .at x ∙ rw e (and-true (ltb x n)))
-
-pub gathered-whole : {test f : ℕ → Bool} {n q : ℕ} → Gathered test q f → q ≤ n → n ≤ q → (x : ℕ) → f x ≡ (ltb x n && test x)
-gathered-whole {n = n} {q = q} G l m x = (let e : q ≡ n = omega arith in G .at x ∙ rw e)
+pub below-more : {q : ℕ} {f h : ℕ → Bool} → Below q f → q < stateLimit → ((x : ℕ) → h x ≡ (f x || (eqb x q && ltb q stateLimit))) → Below (q + 1) h
+below-more {q} B l is = record {
+  at = λ x.
+      is x ∙ rw (B .at x, lt-ltb q stateLimit l)
+      (⊎-elim
+      (λ (b : x < q). rw (lt-ltb x q b, lt-ltb x (q + 1) (omega arith)))
+      (λ b. ⊎-elim
+      (λ (c : q < x). rw (le-ltb x q b, le-ltb x (q + 1) (omega arith), ne-eqb x q (λ e. omega arith)))
+      (λ c. (let e : x ≡ q = omega arith in rw e (rw (le-ltb q q (le-refl q), lt-ltb q (q + 1) (omega arith), eq-eqb q q refl))))
+      (lt-or-le q x))
+      (lt-or-le x q));
+}
 
 -- ---- arrays of sets
 
@@ -224,6 +201,19 @@ module _ {g : Automaton} {a : ℕ} {sets : List ℕ} (P : Preceding g (λ p b. l
 
 -- ---- the entries of a row
 
+-- one entry stored
+pub entered-one : (square : List ℕ) (p y d : ℕ) → length square ≡ squareSize → p < stateLimit → y < stateLimit
+    → Entered square p (λ q. eqb q y) d (set square (place p y) d)
+entered-one square p y d size lp ly = record {
+  size = length-set square (place p y) d;
+  here = λ q lq. by q (eqb q y) refl;
+  elsewhere = λ x q lx lq ne. getD-set-other square (place p y) (place x q) d 0 (λ e. ne (omega (arith, e, lq, ly)));
+}
+  where
+    by : (q : ℕ) (b : Bool) → eqb q y ≡ b → entry (set square (place p y) d) p q ≡ cond b d (entry square p q)
+    by q true h = (let e = eqb-true q y h in rw e (getD-set-same square (place p y) d 0 (omega (arith, size, lp, ly))))
+    by q false h = (let ne = eqb-false q y h in getD-set-other square (place p y) (place p q) d 0 (λ e. ne (omega (arith, e))))
+
 -- what is entered for the states that are left makes what is to be entered
 pub record Entering (before : List ℕ) (p : ℕ) (whole : ℕ → Bool) (d : ℕ) (after : List ℕ) (left : ℕ → Bool) : Type 0 where
   pub size : length after ≡ length before
@@ -238,28 +228,22 @@ module _ {before : List ℕ} {p : ℕ} {whole : ℕ → Bool} {d : ℕ} {after :
   pub entering-more : {left′ : ℕ → Bool} → length before ≡ squareSize → p < stateLimit → y < stateLimit
       → ((q : ℕ) → left′ q ≡ (left q && not (eqb q y && ltb y stateLimit))) → Entering before p whole d (set after (place p y) d) left′
   entering-more {left′} size lp ly is = record {
-    size = length-set after (place p y) d ∙ E .size;
-    here = λ q lq. by q lq (eqb q y) refl;
-    elsewhere = λ x q lx lq ne. getD-set-other after (place p y) (place x q) d 0 (λ e. ne (omega (arith, e, lq, ly))) ∙ E .elsewhere x q lx lq ne;
+    size = one .size ∙ E .size;
+    here = λ q lq.
+        rw (is q, one .here q lq, lt-ltb y stateLimit ly)
+        (step (entry after p q) (left q) (eqb q y) (λ h. (let e = eqb-true q y h in rw e (lowest-in left ey ly))))
+        ∙ E .here q lq;
+    elsewhere = λ x q lx lq ne. one .elsewhere x q lx lq ne ∙ E .elsewhere x q lx lq ne;
   }
     where
-      inside : place p y < length after
-      inside = (let m = E .size in omega (arith, m, size, lp, ly))
+      one : Entered after p (λ q. eqb q y) d (set after (place p y) d)
+      one = entered-one after p y d (E .size ∙ size) lp ly
 
-      by : (q : ℕ) → q < stateLimit → (b : Bool) → eqb q y ≡ b
-          → cond (left′ q) d (entry (set after (place p y) d) p q) ≡ cond (whole q) d (entry before p q)
-      by q lq true h =
-          let e = eqb-true q y h in
-          let was : cond (left y) d (entry after p y) ≡ cond (whole y) d (entry before p y) = E .here y ly in
-          rw e (rw (is y, lowest-in left ey ly, eq-eqb y y refl, lt-ltb y stateLimit ly) (getD-set-same after (place p y) d 0 inside)
-          ∙ rw (lowest-in left ey ly) at was)
-      by q lq false h =
-          let ne = eqb-false q y h in
-          rw (is q, h, getD-set-other after (place p y) (place p q) d 0 (λ e. ne (omega (arith, e)))) (keep (left q) refl)
-        where
-          keep : (b : Bool) → left q ≡ b → cond (b && true) d (entry after p q) ≡ cond (whole q) d (entry before p q)
-          keep true e = rw e at (E .here q lq)
-          keep false e = rw e at (E .here q lq)
+      step : (i : ℕ) (f e : Bool) → (e ≡ true → f ≡ true) → cond (f && not (e && true)) d (cond e d i) ≡ cond f d i
+      step i true true h = refl
+      step i true false h = refl
+      step i false true h = absurd (clash (h refl) refl)
+      step i false false h = refl
 
   pub entering-all : stateLimit ≤ y → Entered before p whole d after
   entering-all l = record {

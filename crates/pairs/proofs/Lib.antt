@@ -1,3 +1,4 @@
+pub mod Pass
 pub mod Visit
 pub mod Gather
 pub mod Layers

@@ -131,8 +131,24 @@ pub record Blank (square : List ℕ) : Type 0 where
   pub size : length square ≡ squareSize
   pub filled : (i : ℕ) → i < squareSize → getD square i 0 ≡ never
 
--- the rows below p hold 0 for the states that pass the test, and the others are as they were filled
-pub record Begun (test : Test) (outs : List ℕ) (p : ℕ) (square alike fresh : List ℕ) (rows : ℕ → Bool) : Type 0 where
-  pub kept : Kept (length outs) 0 p square alike fresh rows
-  pub done : (x q : ℕ) → x < p → q < length outs → entry square x q ≡ cond (passing test outs x q) 0 never
-  pub rest : (x q : ℕ) → p ≤ x → x < length outs → q < stateLimit → entry square x q ≡ never
+-- the pairs before `number` in a pass are at 0 where they pass the test, and the others are as they were filled; the
+-- rows below `row` are done
+pub record Begun (test : Test) (outs : List ℕ) (row number : ℕ) (square alike fresh : List ℕ) (rows : ℕ → Bool) : Type 0
+  where
+    pub kept : Kept (length outs) 0 row square alike fresh rows
+    pub entries : (p q : ℕ) → p < length outs → q < length outs
+        → entry square p q ≡ cond (ltb (p * length outs + q) number && passing test outs p q) 0 never
+    pub noted : (p q : ℕ) → p < length outs → setAt fresh p q ≡ (ltb q (length outs) && eqb (entry square p q) 0)
+
+-- one pair more: where p and q pass the test, their entry became 0 and q one of the fresh states of row p
+pub record PairBegun (test : Test) (outs : List ℕ) (p q : ℕ) (square fresh square′ fresh′ : List ℕ) : Type 0 where
+  pub entered : Entered square p (λ x. eqb x q && passing test outs p q) 0 square′
+  pub noted : Put fresh p (λ x. setAt fresh p x || (eqb x q && passing test outs p q)) fresh′
+
+-- one row more: the states alike to p became the others that are not fresh, and p one of the rows if it has a fresh one
+pub record RowDone (n p : ℕ) (fresh alike : List ℕ) (rows : ℕ → Bool) (alike′ : List ℕ) (rows′ : ℕ → Bool) : Type 0
+  where
+    pub others : Put alike p (λ q. (ltb q n && not (setAt fresh p q)) && not (eqb q p)) alike′
+    pub same : (x : ℕ) → (x ≡ p → ⊥) → rows′ x ≡ rows x
+    pub some : rows′ p ≡ true → (rows p ≡ true) ⊎ ((q : ℕ) × (setAt fresh p q ≡ true))
+    pub all : (q : ℕ) → q < stateLimit → setAt fresh p q ≡ true → rows′ p ≡ true

@@ -1,2 +1,3 @@
 pub mod Square
+pub mod Pass
 pub mod Layers

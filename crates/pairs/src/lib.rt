@@ -15,8 +15,10 @@ ghost use Rattle.theory.specs.Automaton.{Automaton, Closed, run};
 ghost use Rattle.theory.specs.Monitor.{stateLimit, symbolLimit};
 ghost use Rattle.state_set.specs.Member.{member};
 ghost use Rattle.monitor.specs.Format.{Rows, graph};
-ghost use Rattle.pairs.specs.Square.{never, squareSize, entry, Squared, passes, passing, nearer, Falling, apart};
-ghost use Rattle.pairs.specs.Layers.{setAt, Put, Empty, Preceding, upTo, Into, Entered, Blank, Begun};
+ghost use Rattle.pairs.specs.Square.{never, squareSize, entry, Squared, passing, nearer, Falling, apart};
+ghost use Rattle.pairs.specs.Pass.{start, next};
+ghost use Rattle.pairs.specs.Layers.{setAt, Put, Empty, Preceding, upTo, Into, Entered, Blank};
+ghost use Rattle.pairs.specs.Layers.{Begun, PairBegun, RowDone};
 ghost use Rattle.pairs.specs.Layers.{Ground, Layer, GoesAt, rowDone, symbolDone, stateDone};
 
 // Not told apart. Any smaller number counts symbols.
@@ -41,12 +43,15 @@ pub enum Test {
 }
 
 impl Test {
-    fn passes(self, sent: u8, received: u8) -> bool
-        ensures { λ r. ⌜ r ≡ passes self sent received ⌝ }
+    // Whether it tells the states p and q apart, by their outputs: p after the sent trace, q after the received one.
+    fn passes(self, outputs: &[u8], p: usize, q: usize) -> bool
+        requires { ⌜ (p < length (now outputs))
+            × (q < length (now outputs)) ⌝ }
+        ensures { λ r. ⌜ r ≡ passing self (now (outputs .entry)) p q ⌝ }
     {
         match self {
-            Test::Differ => sent != received,
-            Test::Misread(v) => received as usize == v && sent as usize != v,
+            Test::Differ => outputs[p] != outputs[q],
+            Test::Misread(v) => outputs[q] as usize == v && outputs[p] as usize != v,
         }
     }
 }
@@ -305,25 +310,50 @@ fn spread(
     }
 }
 
-// ---- the square
+// ---- passes over the pairs of states
 
-// The states whose outputs pass the test with that of p, which comes first.
-fn passing_with(outputs: &[u8], test: Test, p: usize) -> StateSet
-    requires { ⌜ (length (now outputs) ≤ stateLimit)
-        × (p < length (now outputs)) ⌝ }
-    ensures { λ r. ⌜ ((q : ℕ) → member r q
-        ≡ (ltb q (length (now (outputs .entry))) && passing test (now (outputs .entry)) p q)) ⌝ }
-{
-    let mut set = StateSet::empty();
-    let mut q = 0;
-    while q < outputs.len() {
-        if test.passes(outputs[p], outputs[q]) {
-            set = set.with(q);
-        }
-        q += 1;
-    }
-    set
+// A pair of a pass: its row and its column, which are states, and its number, from 0.
+struct Position {
+    row: usize,
+    column: usize,
+    number: usize,
 }
+
+// The pair that a pass begins with.
+fn first_pair() -> Position
+    ensures { λ r. ⌜ r ≡ start ⌝ }
+{
+    Position {
+        row: 0,
+        column: 0,
+        number: 0,
+    }
+}
+
+// The pair after this one, of n states: the next in its row or, at the row's end, the first of the next row.
+fn next_pair(at: Position, n: usize) -> Position
+    requires { ⌜ (at .row < stateLimit)
+        × (at .column < stateLimit)
+        × (at .number < squareSize) ⌝ }
+    ensures { λ r. ⌜ r ≡ next n at ⌝ }
+{
+    let column = at.column + 1;
+    let number = at.number + 1;
+    if column == n {
+        return Position {
+            row: at.row + 1,
+            column: 0,
+            number,
+        };
+    }
+    Position {
+        row: at.row,
+        column,
+        number,
+    }
+}
+
+// ---- the square before the first round
 
 // The states below n.
 fn all_below(n: usize) -> StateSet
@@ -339,36 +369,52 @@ fn all_below(n: usize) -> StateSet
     set
 }
 
-// Row p before the first round: the states told apart from p at once, and those that are alike to p, p itself left out.
-// Returns the rows that have a pair at 0, beside those given.
-fn begin_row(
+// Enters 0 for p and q where the test tells them apart, and adds q to the fresh states of row p.
+fn begin_pair(
     square: &mut [u16; SQUARE_SIZE],
-    alike: &mut [u64; STATE_LIMIT],
     fresh: &mut [u64; STATE_LIMIT],
     outputs: &[u8],
     test: Test,
+    p: usize,
+    q: usize,
+)
+    requires { ⌜ (length (now outputs) ≤ stateLimit)
+        × (p < length (now outputs))
+        × (q < length (now outputs))
+        × (length (now square) ≡ squareSize)
+        × (length (now fresh) ≡ stateLimit) ⌝ }
+    ensures { λ _. ⌜ PairBegun test (now (outputs .entry)) p q
+        (now (square .entry)) (now (fresh .entry)) (now (square .exit)) (now (fresh .exit)) ⌝ }
+{
+    if test.passes(outputs, p, q) {
+        square[p * STATE_LIMIT + q] = 0;
+        put(fresh, p, set_of(fresh, p).with(q));
+    }
+}
+
+// Sets the states alike to p, once its fresh ones are known: all others, p itself left out. Returns the rows that have
+// a fresh state, beside those given.
+fn end_row(
+    alike: &mut [u64; STATE_LIMIT],
+    fresh: &[u64; STATE_LIMIT],
     all: StateSet,
     p: usize,
     rows: StateSet,
 ) -> StateSet
-    requires { ⌜ (length (now outputs) ≤ stateLimit)
-        × (p < length (now outputs))
-        × ((q : ℕ) → member all q ≡ ltb q (length (now outputs)))
-        × Begun test (now outputs) p (now square) (now alike) (now fresh) (member rows) ⌝ }
-    ensures { λ r. ⌜ Begun test (now (outputs .entry)) (p + 1)
-        (now (square .exit)) (now (alike .exit)) (now (fresh .exit)) (member r) ⌝ }
+    requires { ⌜ (p < stateLimit)
+        × (length (now alike) ≡ stateLimit) ⌝ }
+    ensures { λ r. ⌜ ((n : ℕ) → ((q : ℕ) → member all q ≡ ltb q n)
+        → RowDone n p (now (fresh .entry)) (now (alike .entry)) (member rows) (now (alike .exit)) (member r)) ⌝ }
 {
-    let apart = passing_with(outputs, test, p);
+    let apart = set_of(fresh, p);
     put(alike, p, all.minus(apart).without(p));
-    put(fresh, p, apart);
-    enter(square, p, apart, 0);
     if is_empty(apart) {
         return rows;
     }
     rows.with(p)
 }
 
-// All rows before the first round. Returns the rows that have a pair at 0.
+// The pass before the first round. Returns the rows that have a pair at 0.
 fn begin(
     square: &mut [u16; SQUARE_SIZE],
     alike: &mut [u64; STATE_LIMIT],
@@ -377,16 +423,24 @@ fn begin(
     test: Test,
 ) -> StateSet
     requires { ⌜ (length (now outputs) ≤ stateLimit)
-        × Begun test (now outputs) 0 (now square) (now alike) (now fresh) (λ q. false) ⌝ }
+        × Begun test (now outputs) 0 0 (now square) (now alike) (now fresh) (λ q. false) ⌝ }
     ensures { λ r. ⌜ Begun test (now (outputs .entry)) (length (now (outputs .entry)))
+        (length (now (outputs .entry)) * length (now (outputs .entry)))
         (now (square .exit)) (now (alike .exit)) (now (fresh .exit)) (member r) ⌝ }
 {
-    let all = all_below(outputs.len());
+    let n = outputs.len();
+    let all = all_below(n);
     let mut rows = StateSet::empty();
-    let mut p = 0;
-    while p < outputs.len() {
-        rows = begin_row(square, alike, fresh, outputs, test, all, p, rows);
-        p += 1;
+    let mut at = first_pair();
+    while at.number < n * n {
+        begin_pair(square, fresh, outputs, test, at.row, at.column);
+        // The step stands on both ways: on each the compiler then knows whether the row ends, and has less to do.
+        if at.column + 1 == n {
+            rows = end_row(alike, fresh, all, at.row, rows);
+            at = next_pair(at, n);
+        } else {
+            at = next_pair(at, n);
+        }
     }
     rows
 }
