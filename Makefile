@@ -39,6 +39,7 @@ test:
 	@set -euo pipefail; log=$$(mktemp); trap 'rm -f "$$log"' EXIT; \
 	rt ci 2>&1 | tee "$$log"; \
 	python3 samples/make.py --check; \
+	python3 tests/divisions.py; \
 	python3 tests/readme.py "$$(tail -n 1 "$$log")"; \
 	python3 tests/setup.py; \
 	python3 tests/compare.py; \
