@@ -17,7 +17,7 @@ use Rattle.pairs.specs.declared.Position.{Position}
 use Rattle.pairs.specs.declared.Test.{Test}
 use Rattle.pairs.specs.declared.Test.the-variants.{Differ, Misread}
 use Rattle.pairs.specs.Square.{never, squareSize, place, entry, passes, passing, apartAtOnce}
-use Rattle.pairs.specs.Pass.{start, next}
+use Rattle.pairs.specs.Pass.{start, next, pair}
 use Rattle.pairs.specs.Layers.{setAt, Put, Entered, Layer, Blank, Begun, PairBegun, RowDone}
 use Rattle.pairs.proofs.Pass.{row-is, column-is, On, on-start, on-next, on-over, on-numbered, on-row, on-column}
 use Rattle.pairs.proofs.Gather.{empty-at, entered-one}
@@ -277,28 +277,36 @@ module _ {test : Test} {outs : List ℕ} {at : Position} {square alike fresh : L
       let e : at .number ≡ length outs * length outs = omega (arith, l, m) in
       rw (on-over (W .on) e, e) at (W .begun)
 
-  -- fewer pairs are left after a step
-  pub walking-less : at .number < length outs * length outs → {after : Position} → after ≡ next (length outs) at
-      → length outs * length outs - after .number < length outs * length outs - at .number
-  walking-less l e = rw e (omega (arith, l))
+  module _ (l : at .number < length outs * length outs) {after : Position} (f : after ≡ pair (length outs) (at .number + 1)) where
+    by-step : after ≡ next (length outs) at
+    by-step = f ∙ sym (on-next (W .on))
 
-  module _ (small : length outs ≤ stateLimit) (l : at .number < length outs * length outs) {square′ fresh′ : List ℕ}
-      (P : PairBegun test outs (at .row) (at .column) square fresh square′ fresh′) {after : Position} (f : after ≡ next (length outs) at) where
-    more : Begun test outs (at .row) (at .number + 1) square′ alike fresh′ rows
-    more = begun-pair small (on-row (W .on) l) (W .begun) (on-column (W .on) l) (on-numbered (W .on) l) P
+    -- fewer pairs are left after a step
+    pub walking-less : length outs * length outs - after .number < length outs * length outs - at .number
+    walking-less = rw by-step (omega (arith, l))
 
-    -- along the row
-    pub walking-along : (at .column + 1 ≡ length outs → ⊥) → Walking test outs after square′ alike fresh′ rows
-    walking-along ne = rw f (record { most = omega (arith, l); on = on-next (W .on); begun = rw (ne-eqb (at .column + 1) (length outs) ne) more })
+    module _ (small : length outs ≤ stateLimit) {square′ fresh′ : List ℕ} (P : PairBegun test outs (at .row) (at .column) square fresh square′ fresh′) where
+      more : Begun test outs (at .row) (at .number + 1) square′ alike fresh′ rows
+      more = begun-pair small (on-row (W .on) l) (W .begun) (on-column (W .on) l) (on-numbered (W .on) l) P
 
-    -- to the next row
-    pub walking-down : at .column + 1 ≡ length outs → {alike′ : List ℕ} {rows′ : ℕ → Bool} → RowDone (length outs) (at .row) fresh′ alike rows alike′ rows′
-        → Walking test outs after square′ alike′ fresh′ rows′
-    walking-down e R = rw f (record {
-      most = omega (arith, l);
-      on = on-next (W .on);
-      begun = rw (eq-eqb (at .column + 1) (length outs) e) (begun-row small (on-row (W .on) l) more R);
-    })
+      -- along the row
+      pub walking-along : (at .column + 1 ≡ length outs → ⊥) → Walking test outs after square′ alike fresh′ rows
+      walking-along ne = rw by-step (record {
+        most = omega (arith, l);
+        on = record { is = on-next (W .on) };
+        begun = rw (ne-eqb (at .column + 1) (length outs) ne) more;
+      })
+
+      -- to the next row
+      pub walking-down : at .column + 1 ≡ length outs → {alike′ : List ℕ} {rows′ : ℕ → Bool} → RowDone (length outs) (at .row) fresh′ alike rows alike′ rows′
+          → Walking test outs after square′ alike′ fresh′ rows′
+      walking-down e R = rw by-step (record {
+        most = omega (arith, l);
+        on = record { is = on-next (W .on) };
+        begun = rw (eq-eqb (at .column + 1) (length outs) e) (begun-row small (on-row (W .on) l) more R);
+      })
+
+-- ---- all pairs
 
 -- no state passes the test with itself
 passes-self : (test : Test) (x : ℕ) → passes test x x ≡ false
@@ -308,8 +316,6 @@ passes-self (Misread v) x = go (eqb x v)
     go : (c : Bool) → (c && not c) ≡ false
     go true = refl
     go false = refl
-
--- ---- all pairs
 
 module _ {n : ℕ} {test : Test} {outs square alike fresh : List ℕ} {rows : ℕ → Bool} (e : length outs ≡ n)
     (b : Begun test outs (length outs) (length outs * length outs) square alike fresh rows) where
@@ -326,8 +332,8 @@ module _ {n : ℕ} {test : Test} {outs square alike fresh : List ℕ} {rows : �
   pub begun-self : (p : ℕ) → p < n → apartAtOnce square p p ≡ false
   begun-self p lp = begun-passing p p lp lp ∙ passes-self test (getD outs p 0)
 
-  pub begun-layer : {k : ℕ} {next : ℕ → ℕ → ℕ}
-      → Layer (record { states = n; symbols = k; next = next }) (apartAtOnce square) 0 square alike fresh rows
+  pub begun-layer : {k : ℕ} {successor : ℕ → ℕ → ℕ}
+      → Layer (record { states = n; symbols = k; next = successor }) (apartAtOnce square) 0 square alike fresh rows
   unfolding told
   begun-layer = record {
     kept = rw e at (b .kept);

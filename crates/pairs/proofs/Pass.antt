@@ -63,9 +63,14 @@ unfolding pair
 count n zero = refl
 count n (suc k) = (let e = count n k in omega (arith, e))
 
-start-row : (pair 0 0) .row ≡ 0
+-- after the last pair n rows are done
+over : (n : ℕ) → (pair n (n * n)) .row ≡ n
 unfolding pair
-start-row = refl
+over n =
+    ⊎-elim
+    (λ (h : 0 < n). (let A = along h (n * n) in row-is _ n (A .column-below) h (let e = A .numbered in omega (arith, e))))
+    (λ h. (let z : n ≡ 0 = omega (arith, h) in rw z refl))
+    (lt-or-le 0 n)
 
 pub pass : (n : ℕ) → Pass n
 pass n = record {
@@ -78,10 +83,6 @@ pass n = record {
       let A = here l in
       (p * n + q, l, row-is _ p (A .column-below) lq (A .numbered), column-is _ p (A .column-below) lq (A .numbered));
   once = λ i k li lk er ec. sym (here li .numbered) ∙ rw (er, ec) (here lk .numbered);
-  over = ⊎-elim
-      (λ (h : 0 < n). (let A = along h (n * n) in row-is _ n (A .column-below) h (let e = A .numbered in omega (arith, e))))
-      (λ h. (let z : n ≡ 0 = omega (arith, h) in rw z start-row))
-      (lt-or-le 0 n);
 }
 
 -- ---- the pair that a pass is at
@@ -93,13 +94,14 @@ pub on-start : {n : ℕ} → On n start
 unfolding pair
 on-start = record { is = refl }
 
-pub on-next : {n : ℕ} {at : Position} → On n at → On n (next n at)
-unfolding pair
-on-next {n} {at} o = record { is = ap (next n) (o .is) ∙ rw (add-one (at .number)) }
-
 module _ {n : ℕ} {at : Position} (o : On n at) where
+  -- the step leads to the pair with the next number
+  pub on-next : next n at ≡ pair n (at .number + 1)
+  unfolding pair
+  on-next = ap (next n) (o .is) ∙ rw (add-one (at .number))
+
   pub on-over : at .number ≡ n * n → at .row ≡ n
-  on-over e = ap (λ (x : Position). x .row) (o .is) ∙ rw e (pass n .over)
+  on-over e = ap (λ (x : Position). x .row) (o .is) ∙ rw e (over n)
 
   module _ (l : at .number < n * n) where
     pub on-numbered : at .row * n + at .column ≡ at .number

@@ -132,7 +132,7 @@ pub record Blank (square : List ℕ) : Type 0 where
   pub filled : (i : ℕ) → i < squareSize → getD square i 0 ≡ never
 
 -- the pairs before `number` in a pass are at 0 where they pass the test, and the others are as they were filled; the
--- rows below `row` are done
+-- fresh states of every row are those at 0; the rows below `row` are done
 pub record Begun (test : Test) (outs : List ℕ) (row number : ℕ) (square alike fresh : List ℕ) (rows : ℕ → Bool) : Type 0
   where
     pub kept : Kept (length outs) 0 row square alike fresh rows

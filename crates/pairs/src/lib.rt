@@ -5,7 +5,7 @@ use theory::SQUARE_SIZE;
 use theory::STATE_LIMIT;
 use theory::SYMBOL_LIMIT;
 ghost use mathlib.Core.Path.{_≡_};
-ghost use mathlib.Core.Bool.{Bool, false, _&&_};
+ghost use mathlib.Core.Bool.{Bool, false};
 ghost use Prim.Native.Nat.{ℕ, suc, _+_, _*_, _≤_, _<_};
 ghost use lib.Dec.{eqb, ltb};
 ghost use lib.ListN.{length};
@@ -16,7 +16,7 @@ ghost use Rattle.theory.specs.Monitor.{stateLimit, symbolLimit};
 ghost use Rattle.state_set.specs.Member.{member};
 ghost use Rattle.monitor.specs.Format.{Rows, graph};
 ghost use Rattle.pairs.specs.Square.{never, squareSize, entry, Squared, passing, nearer, Falling, apart};
-ghost use Rattle.pairs.specs.Pass.{start, next};
+ghost use Rattle.pairs.specs.Pass.{start, pair};
 ghost use Rattle.pairs.specs.Layers.{setAt, Put, Empty, Preceding, upTo, Into, Entered, Blank};
 ghost use Rattle.pairs.specs.Layers.{Begun, PairBegun, RowDone};
 ghost use Rattle.pairs.specs.Layers.{Ground, Layer, GoesAt, rowDone, symbolDone, stateDone};
@@ -311,8 +311,10 @@ fn spread(
 }
 
 // ---- passes over the pairs of states
+//
+// A pass visits all pairs. The rounds are none: they take rows and states from sets, and no pair has a number there.
 
-// A pair of a pass: its row and its column, which are states, and its number, from 0.
+// Where a pass is: the row, the column and the number of a pair, from 0. After the last pair of n states the row is n.
 struct Position {
     row: usize,
     column: usize,
@@ -330,12 +332,12 @@ fn first_pair() -> Position
     }
 }
 
-// The pair after this one, of n states: the next in its row or, at the row's end, the first of the next row.
+// The step of every pass over n states, from a pair to the next: along its row or, at the row's end, to the next row.
 fn next_pair(at: Position, n: usize) -> Position
-    requires { ⌜ (at .row < stateLimit)
-        × (at .column < stateLimit)
-        × (at .number < squareSize) ⌝ }
-    ensures { λ r. ⌜ r ≡ next n at ⌝ }
+    requires { ⌜ (n ≤ stateLimit)
+        × (at .number < n * n)
+        × (at ≡ pair n (at .number)) ⌝ }
+    ensures { λ r. ⌜ r ≡ pair n (at .number + 1) ⌝ }
 {
     let column = at.column + 1;
     let number = at.number + 1;
@@ -434,7 +436,7 @@ fn begin(
     let mut at = first_pair();
     while at.number < n * n {
         begin_pair(square, fresh, outputs, test, at.row, at.column);
-        // The step stands on both ways: on each the compiler then knows whether the row ends, and has less to do.
+        // The step stands in both branches: in each the compiler knows whether the row ends, and has less to do.
         if at.column + 1 == n {
             rows = end_row(alike, fresh, all, at.row, rows);
             at = next_pair(at, n);

@@ -1,9 +1,8 @@
 -- `begin` meets its contract: the pass is at the pair with its number, and the pairs before it have begun.
-use Prim.Native.Nat.{_*_, _-_, _≤_, _<_}
+use Prim.Native.Nat.{_*_, _-_, _≤_}
 use native.Mathlib.Nat.{mul-le-mul}
 use native.Mathlib.Omega.{arith}
 use borrow.Author.Needs.{needs}
-use Rattle.theory.specs.Monitor.{stateLimit}
 use Rattle.state_set.specs.Member.{member}
 use Rattle.pairs.specs.Square.{squareSize}
 use Rattle.pairs.proofs.Pass.{on-row, on-column}
@@ -27,18 +26,6 @@ returns c = walking-over (c .before .before .loop .inv) (c .if1 .left)
 mul-if1 : tie.Need-mul-if1 Inv-loop μ-loop
 mul-if1 c = (let l = c .before .before .before .before .before .pre .0 in let m : _ ≤ squareSize = mul-le-mul l l in omega (arith, m))
 
--- the pair's states are below the limit, and its number below that of all pairs
-low : (c : tie.Then1 Inv-loop μ-loop)
-    → (let at = c .before .before .loop .at in (at .row < stateLimit) × (at .column < stateLimit) × (at .number < squareSize))
-low c =
-    let l = c .before .before .before .before .before .before .before .pre .0 in
-    let W = c .before .before .loop .inv in
-    let t = c .if1 .taken in
-    let row = on-row (W .on) t in
-    let column = on-column (W .on) t in
-    let m : _ ≤ squareSize = mul-le-mul l l in
-    (omega (arith, row, l), omega (arith, column, l), omega (arith, t, m))
-
 begin-pair-requires : tie.Need-begin-pair-requires Inv-loop μ-loop
 begin-pair-requires c κs =
     let s = c .before .before .before .before .before .before .before .before .before in
@@ -47,15 +34,25 @@ begin-pair-requires c κs =
     (s .pre .0, on-row (W .on) t, on-column (W .on) t, W .begun .kept .size, W .begun .kept .fresh-size)
 
 add-if2 : tie.Need-add-if2 Inv-loop μ-loop
-add-if2 c = (let l = low (c .before .before .before .before) .1 in omega (arith, l))
+add-if2 c =
+    let c₅ = c .before .before .before .before .before in
+    let small = c₅ .before .before .before .before .before .before .pre .0 in
+    let l = on-column (c₅ .before .loop .inv .on) (c .before .before .before .before .if1 .taken) in
+    omega (arith, l, small)
 
 end-row-requires : tie.Need-end-row-requires Inv-loop μ-loop
 end-row-requires c κs =
     let c₅ = c .before .before .before .before .before in
-    (low (c₅ .before .before) .0, c₅ .before .before .before .before .loop .inv .begun .kept .alike-size)
+    let W = c₅ .before .before .before .before .loop .inv in
+    let small = c₅ .before .before .before .before .before .before .before .before .before .pre .0 in
+    let l = on-row (W .on) (c₅ .before .before .if1 .taken) in
+    (omega (arith, l, small), W .begun .kept .alike-size)
 
 next-pair-requires : tie.Need-next-pair-requires Inv-loop μ-loop
-next-pair-requires c κs = low (c .before .before .before .before .before .before .before .before)
+next-pair-requires c κs =
+    let c₅ = c .before .before .before .before .before in
+    let s = c₅ .before .before .before .before .before .before .before .before .before .before in
+    (s .pre .0, c₅ .before .before .before .if1 .taken, c₅ .before .before .before .before .before .loop .inv .on .is)
 
 loop-less : tie.Need-loop-less Inv-loop μ-loop
 loop-less c =
@@ -67,11 +64,14 @@ loop-again c =
     let c₅ = c .before .before .before .before .before in
     let c₁₀ = c₅ .before .before .before .before .before in
     let s = c₁₀ .before .before .before .before .before .before in
-    walking-down (c₁₀ .before .loop .inv) (s .pre .0) (c₅ .before .before .before .before .if1 .taken) (c₅ .before .begin-pair .ensures) (c .next-pair .ensures)
+    walking-down (c₁₀ .before .loop .inv) (c₅ .before .before .before .before .if1 .taken) (c .next-pair .ensures) (s .pre .0) (c₅ .before .begin-pair .ensures)
     (c .before .before .before .before .if2 .taken) (c .before .end-row .ensures _ (c₁₀ .before .before .before .before .all-below .ensures))
 
 next-pair-requires-2 : tie.Need-next-pair-requires-2 Inv-loop μ-loop
-next-pair-requires-2 c κs = low (c .before .before .before .before .before)
+next-pair-requires-2 c κs =
+    let c₅ = c .before .before .before .before .before in
+    let s = c₅ .before .before .before .before .before .before .before in
+    (s .pre .0, c₅ .if1 .taken, c₅ .before .before .loop .inv .on .is)
 
 loop-less-2 : tie.Need-loop-less-2 Inv-loop μ-loop
 loop-less-2 c =
@@ -82,8 +82,8 @@ loop-again-2 : tie.Need-loop-again-2 Inv-loop μ-loop
 loop-again-2 c =
     let c₅ = c .before .before .before .before .before in
     let s = c₅ .before .before .before .before .before .before .before .before in
-    walking-along (c₅ .before .before .before .loop .inv) (s .pre .0) (c₅ .before .if1 .taken) (c .before .before .before .begin-pair .ensures)
-    (c .next-pair2 .ensures) (c .before .if2 .left)
+    walking-along (c₅ .before .before .before .loop .inv) (c₅ .before .if1 .taken) (c .next-pair2 .ensures) (s .pre .0)
+    (c .before .before .before .begin-pair .ensures) (c .before .if2 .left)
 
 pub begin-spec : {M : Type 1} → statement M
 begin-spec =
