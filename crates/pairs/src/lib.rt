@@ -312,7 +312,7 @@ fn spread(
 
 // ---- passes over the pairs of states
 //
-// A pass visits all pairs. The rounds are none: they take rows and states from sets, and no pair has a number there.
+// A pass visits all pairs. The rounds are no passes: they take rows and states from sets, and number no pair.
 
 // Where a pass is: the row, the column and the number of a pair, from 0. After the last pair of n states the row is n.
 struct Position {
@@ -446,6 +446,8 @@ fn begin(
     }
     rows
 }
+
+// ---- the square
 
 // The square filled with "not told apart".
 pub fn blank() -> [u16; SQUARE_SIZE]
