@@ -18,44 +18,10 @@ use Rattle.theory.proofs.Values.{filled, filled-same}
 use Rattle.state_set.specs.declared.StateSet.{StateSet}
 use Rattle.state_set.specs.Member.{member, Exactly}
 use Rattle.monitor.specs.Format.{automatonOf, tableOf, Table}
-use Rattle.classes.specs.Sets.{hasMark, classBy, uglyBy, monitorabilityBy}
+use Rattle.reach.proofs.Exactly.{exactly-in, exactly-out}
+use Rattle.opening.specs.Sets.{hasMark}
+use Rattle.classes.specs.Sets.{classBy, uglyBy, monitorabilityBy}
 use Rattle.classes.specs.Classify.{classifyFigures}
-
--- a set that holds exactly the states that pass, below the bound and past it
-exactly-in : {n : ℕ} {f : ℕ → Bool} {s : StateSet} → Exactly n f s → (q : ℕ) → q < n → member s q ≡ f q
-exactly-in {n} {f} e q l = e .at q ∙ ap (λ (b : Bool). b && f q) (lt-ltb q n l)
-
-exactly-out : {n : ℕ} {f : ℕ → Bool} {s : StateSet} → Exactly n f s → (q : ℕ) → n ≤ q → member s q ≡ false
-exactly-out {n} {f} e q l = e .at q ∙ ap (λ (b : Bool). b && f q) (le-ltb q n l)
-
--- a bound that is equal to another
-pub exactly-at : {n m : ℕ} {f : ℕ → Bool} {s : StateSet} → n ≡ m → Exactly n f s → Exactly m f s
-exactly-at {f = f} {s = s} e x = subst (λ (i : ℕ). Exactly i f s) e x
-
--- what reaches the states that pass a test
-pub reaching-is : {g : Automaton} {f : ℕ → Bool} {s r : StateSet} → Closed g → Exactly (g .states) f s
-    → ((p : ℕ) → member r p ≡ (member s p || (ltb p (g .states) && leads g (member s) p))) → Exactly (g .states) (leads g f) r
-reaching-is {g} {f} {s} {r} c x e = record { at = λ p. e p ∙ both-ways (to p) (from p) }
-  where
-    same : (p : ℕ) → p < g .states → leads g (member s) p ≡ leads g f p
-    same = leads-same c (member s) f (exactly-in x)
-
-    to : (p : ℕ) → (member s p || (ltb p (g .states) && leads g (member s) p)) ≡ true → (ltb p (g .states) && leads g f p) ≡ true
-    to p t =
-        ⊎-elim
-        (λ i. (let h = sym (x .at p) ∙ i in
-        let l = ltb-true p (g .states) (and-left (ltb p (g .states)) (f p) h) in
-        and-both (ltb p (g .states)) (leads g f p) (lt-ltb p (g .states) l)
-        (leads-complete g f c p l (hits-here g f p (and-right (ltb p (g .states)) (f p) h)))))
-        (λ i. (let l = and-left (ltb p (g .states)) (leads g (member s) p) i in
-        and-both (ltb p (g .states)) (leads g f p) l (sym (same p (ltb-true p (g .states) l)) ∙ and-right (ltb p (g .states)) (leads g (member s) p) i)))
-        (or-cases (member s p) (ltb p (g .states) && leads g (member s) p) t)
-
-    from : (p : ℕ) → (ltb p (g .states) && leads g f p) ≡ true → (member s p || (ltb p (g .states) && leads g (member s) p)) ≡ true
-    from p t =
-        let l = and-left (ltb p (g .states)) (leads g f p) t in
-        or-right (member s p) (ltb p (g .states) && leads g (member s) p)
-        (and-both (ltb p (g .states)) (leads g (member s) p) l (same p (ltb-true p (g .states) l) ∙ and-right (ltb p (g .states)) (leads g f p) t))
 
 -- a state is ugly where neither true nor false can be reached from it, its own verdict included
 ugly-class : {limit : ℕ} {m : Monitor} → WellFormed limit m → (q : ℕ) → q < m .automaton .states

@@ -2,16 +2,12 @@
 use mathlib.Core.Bool.{Bool, cond, not, _&&_}
 use mathlib.Core.List.{List}
 use Prim.Native.Nat.{ℕ}
-use lib.Dec.{eqb, ltb}
+use lib.Dec.{ltb}
 use lib.ListN.{getD}
 use Rattle.theory.specs.Below.{count}
 use Rattle.theory.specs.Monitor.{classFrom, weak, stateLimit}
 use Rattle.state_set.specs.declared.StateSet.{StateSet}
 use Rattle.state_set.specs.Member.{member}
-
--- state q has the mark v
-abbrev pub hasMark : List ℕ → ℕ → ℕ → Bool
-hasMark vs v q = eqb (getD vs q 0) v
 
 -- the class of q by its mark and the sets of states from which true and false can be reached
 abbrev pub classBy : List ℕ → StateSet → StateSet → ℕ → ℕ

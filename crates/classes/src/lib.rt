@@ -1,7 +1,7 @@
 // The class of every state of a monitor, its monitorability, and the number of states reached.
 use basics::Refusal;
-use monitor::Opened;
 use monitor::Shape;
+use opening::Opened;
 use state_set::StateSet;
 use theory::STATE_LIMIT;
 ghost use mathlib.Core.Path.{_≡_};
@@ -15,7 +15,8 @@ ghost use Rattle.theory.specs.Answer.{asks, written};
 ghost use Rattle.state_set.specs.Member.{Exactly};
 ghost use Rattle.monitor.specs.Format.{Rows, graph, monitorOf};
 ghost use Rattle.monitor.specs.Opening.{monitorIn, TableIn};
-ghost use Rattle.classes.specs.Sets.{hasMark, classBy, monitorabilityBy};
+ghost use Rattle.opening.specs.Sets.{hasMark};
+ghost use Rattle.classes.specs.Sets.{classBy, monitorabilityBy};
 ghost use Rattle.classes.specs.Classify.{classList, classifyQuestions, classifyFigures};
 ghost use Rattle.classes.specs.Classify.{classifyAnswer, classification};
 
@@ -33,22 +34,6 @@ struct Outlook {
     falsity: StateSet,
 }
 
-// The states with the mark v.
-fn states_marked(marks: &[u8], v: u8) -> StateSet
-    requires { ⌜ length (now marks) ≤ stateLimit ⌝ }
-    ensures { λ r. ⌜ Exactly (length (now (marks .entry))) (hasMark (now (marks .entry)) v) r ⌝ }
-{
-    let mut set = StateSet::empty();
-    let mut q = 0;
-    while q < marks.len() {
-        if marks[q] == v {
-            set = set.with(q);
-        }
-        q += 1;
-    }
-    set
-}
-
 // Which verdicts can still be found from each state.
 fn outlook_of(marks: &[u8], nexts: &[u8], n: usize, k: usize) -> Outlook
     requires { ⌜ Rows stateLimit n k (now nexts)
@@ -57,8 +42,8 @@ fn outlook_of(marks: &[u8], nexts: &[u8], n: usize, k: usize) -> Outlook
     ensures falsity { λ r. ⌜ Exactly n (leads (graph n k (nexts .entry)) (hasMark (now (marks .entry)) 2))
         (r .falsity) ⌝ }
 {
-    let truth = reach::reaching(nexts, n, k, states_marked(marks, 1));
-    let falsity = reach::reaching(nexts, n, k, states_marked(marks, 2));
+    let truth = reach::reaching(nexts, n, k, opening::states_marked(marks, 1));
+    let falsity = reach::reaching(nexts, n, k, opening::states_marked(marks, 2));
     Outlook { truth, falsity }
 }
 
@@ -201,7 +186,7 @@ pub fn classify(body: &[u8], area: &mut [u8]) -> Classification
         (classList (monitorOf (now (body .entry)))) (now (area .entry)) ⌝ }
 {
     let mut marks = [0u8; STATE_LIMIT];
-    match monitor::open(body, &mut marks) {
+    match opening::open(body, &mut marks) {
         Opened::Refused(r) => Classification::Refused(r),
         Opened::Table(t) => {
             let n = t.states;

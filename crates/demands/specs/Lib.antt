@@ -4,3 +4,4 @@ pub mod DemandThree
 pub mod VerdictFall
 pub mod RoundTrip
 pub mod TrustedVerdicts
+pub mod SettledMarks

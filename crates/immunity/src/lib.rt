@@ -2,8 +2,8 @@
 use basics::Refusal;
 use faults::FaultSet;
 use faults::KINDS;
-use monitor::Opened;
 use monitor::Shape;
+use opening::Opened;
 use pairs::Test;
 use theory::SQUARE_SIZE;
 use theory::STATE_LIMIT;
@@ -158,7 +158,7 @@ pub fn card(body: &[u8]) -> LinkCard
     ensures { λ r. ⌜ carded r ≡ cardAnswer stateLimit (now (body .entry)) ⌝ }
 {
     let mut marks = [0u8; STATE_LIMIT];
-    match monitor::open(body, &mut marks) {
+    match opening::open(body, &mut marks) {
         Opened::Refused(r) => refused_card(r),
         Opened::Table(t) => {
             let n = t.states;

@@ -4,8 +4,10 @@ use mathlib.Core.List.{List}
 use Prim.Native.Nat.{ℕ, _+_, _*_, _≤_, _<_}
 use lib.ListN.{length, getD, take, drop}
 use denote.Ref.{RefT, now}
+use Rattle.theory.specs.Below.{values}
 use Rattle.theory.specs.Automaton.{Automaton}
 use Rattle.theory.specs.Monitor.{Monitor, WellFormed, symbolLimit}
+use Rattle.theory.specs.Settled.{settledMark}
 
 -- "Byte 0 is n, the number of states."
 abbrev pub statesOf : List ℕ → ℕ
@@ -23,10 +25,6 @@ startOf b = getD b 2 0
 abbrev pub drawnMarks : List ℕ → List ℕ
 drawnMarks b = take (statesOf b) (drop 3 b)
 
--- the marks that readings, classes and distances go by: those drawn
-abbrev pub marks : List ℕ → List ℕ
-marks b = drawnMarks b
-
 -- "Then n times k next states, row by row, message 0 first."
 abbrev pub nexts : List ℕ → List ℕ
 nexts b = drop (3 + statesOf b) b
@@ -42,6 +40,18 @@ graph n k nexts = automatonOf n k (now nexts)
 -- with the start s and the marks vs
 abbrev pub tableOf : ℕ → ℕ → ℕ → List ℕ → List ℕ → Monitor
 tableOf n k s vs ts = record { automaton = automatonOf n k ts; start = s; verdict = λ q. getD vs q 0 }
+
+-- the settled marks of n states with k symbols (02, note 5), of the marks vs as drawn
+unfoldable pub settledMarks : ℕ → ℕ → List ℕ → List ℕ → List ℕ
+settledMarks n k vs ts = values n (settledMark (automatonOf n k ts) (λ q. getD vs q 0))
+
+-- "Both readings, the classes, the count of Note 1 and the distances use these settled marks."
+abbrev pub marks : List ℕ → List ℕ
+marks b = settledMarks (statesOf b) (symbolsOf b) (drawnMarks b) (nexts b)
+
+-- the monitor as it is drawn
+abbrev pub drawnOf : List ℕ → Monitor
+drawnOf b = tableOf (statesOf b) (symbolsOf b) (startOf b) (drawnMarks b) (nexts b)
 
 -- the monitor that a body stands for
 abbrev pub monitorOf : List ℕ → Monitor

@@ -9,7 +9,6 @@ ghost use Rattle.theory.specs.Below.{any, first};
 ghost use Rattle.theory.specs.Monitor.{stateLimit};
 ghost use Rattle.theory.specs.Answer.{Answer, asks};
 ghost use Rattle.monitor.specs.Format.{drawnMarks, nexts, Rows, graph};
-ghost use Rattle.monitor.specs.Opening.{Opens};
 ghost use Rattle.monitor.specs.Questions.{notBelow, firstNotBelow, revokes, firstRevoking};
 ghost use Rattle.monitor.specs.Questions.{headQuestions, rowQuestions, noValues, judgement, judgeAnswer};
 
@@ -23,12 +22,6 @@ pub struct Shape {
     pub states: usize,
     pub symbols: usize,
     pub start: usize,
-}
-
-// What opening a body answers.
-pub enum Opened {
-    Table(Shape),
-    Refused(Refusal),
 }
 
 // A refusal as a judgement.
@@ -107,7 +100,7 @@ fn first_revoking(marks: &[u8], nexts: &[u8], k: usize) -> usize
 }
 
 // The marks of a body as drawn, as far as it has them.
-fn drawn_marks(body: &[u8]) -> &[u8]
+pub fn drawn_marks(body: &[u8]) -> &[u8]
     ensures { λ r. ⌜ now r ≡ drawnMarks (now (body .entry)) ⌝ }
 {
     basics::part(body, 3, basics::byte_at(body, 0))
@@ -187,26 +180,6 @@ pub fn judge(body: &[u8]) -> Judgement
         Judgement::Accepted => {}
     }
     judge_rows(body)
-}
-
-// Judges a body, and opens an accepted one: the shape of its table, and the marks in the first places of the array.
-// With `next_states` this is all that a call knows of a table.
-pub fn open(body: &[u8], marks: &mut [u8]) -> Opened
-    requires { ⌜ length (now marks) ≡ stateLimit ⌝ }
-    ensures { λ r. ⌜ Opens stateLimit (now (body .entry)) r (now (marks .exit)) ⌝ }
-{
-    match judge(body) {
-        Judgement::Refused(r) => {
-            return Opened::Refused(r);
-        }
-        Judgement::Accepted => {}
-    }
-    bytes::copy(drawn_marks(body), marks);
-    Opened::Table(Shape {
-        states: basics::byte_at(body, 0),
-        symbols: basics::byte_at(body, 1),
-        start: basics::byte_at(body, 2),
-    })
 }
 
 // The successor of state q under symbol a.

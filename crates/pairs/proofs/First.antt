@@ -12,7 +12,7 @@ use lib.ListN.{length, getD, set, replicate, length-replicate, getD-replicate}
 use borrow.Author.Tests.{eq-eqb, ne-eqb, eqb-true, eqb-false, lt-ltb, le-ltb, ltb-true}
 use Rattle.theory.specs.Monitor.{stateLimit}
 use Rattle.theory.specs.Pairs.{told}
-use Rattle.theory.proofs.Below.{clash, lt-or-le, or-right, and-left}
+use Rattle.theory.proofs.Below.{clash, lt-or-le, same-or-not, or-right, and-left}
 use Rattle.pairs.specs.declared.Position.{Position}
 use Rattle.pairs.specs.declared.Test.{Test}
 use Rattle.pairs.specs.declared.Test.the-variants.{Differ, Misread}
@@ -107,13 +107,6 @@ module _ (n : ℕ) {p : ℕ} (fresh : List ℕ) {alike alike′ : List ℕ} {apa
   }
 
 -- ---- one pair more, one row more
-
-same-or-not : (x y : ℕ) → (x ≡ y) ⊎ (x ≡ y → ⊥)
-same-or-not x y = go (eqb x y) refl
-  where
-    go : (c : Bool) → eqb x y ≡ c → (x ≡ y) ⊎ (x ≡ y → ⊥)
-    go true h = inl (eqb-true x y h)
-    go false h = inr (eqb-false x y h)
 
 module _ {test : Test} {outs : List ℕ} (small : length outs ≤ stateLimit) {p k : ℕ} (lp : p < length outs) {square alike fresh : List ℕ} {rows : ℕ → Bool}
     (b : Begun test outs p k square alike fresh rows) where

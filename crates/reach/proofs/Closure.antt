@@ -9,11 +9,12 @@ use native.Mathlib.Nat.{add-zero, add-suc, add-sub-of-le}
 use native.Mathlib.Omega.{arith}
 use lib.Dec.{eqb, ltb}
 use borrow.Author.Tests.{eqb-true, eq-eqb, lt-ltb, ltb-true}
-use Rattle.theory.specs.Below.{any}
-use Rattle.theory.specs.Automaton.{Automaton, Closed, Trace, run, Reaches, leads, reachedFrom}
-use Rattle.theory.proofs.Below.{clash, is-true, both-ways, or-cases, or-left, or-right, and-left, and-right, and-both, any-at, any-find}
+use Rattle.theory.specs.Below.{any, every}
+use Rattle.theory.specs.Automaton.{Automaton, Closed, Trace, run, Reaches, leads, boundWithin, bound, reachedFrom}
+use Rattle.theory.proofs.Below.{clash, is-true, both-ways, or-cases, or-left, or-right, and-left, and-right, and-both, any-at, any-find, every-at, every-all}
 use Rattle.theory.proofs.Reach.{Hits, hits-here, hits-step, run-in, run-append, trace-append, leads-sound, leads-complete, reached-sound, reached-complete}
-use Rattle.reach.specs.Closure.{leadsTo, leadsInto, spread}
+use Rattle.theory.proofs.Bound.{bound-here, bound-step, bound-enough}
+use Rattle.reach.specs.Closure.{leadsTo, leadsInto, into, spread, Least}
 
 -- ---- expanding: `done` are the states whose successors have been added
 
@@ -87,84 +88,129 @@ module _ (g : Automaton) where
 
 -- ---- widening
 
-module _ (g : Automaton) (f : ℕ → Bool) where
-  grows : (i p : ℕ) → spread g f i p ≡ true → spread g f (suc i) p ≡ true
-  unfolding spread
-  grows i p t = or-left (spread g f i p) (eqb p i && any (g .symbols) (leadsInto g (spread g f i) i)) t
+module _ (all : Bool) (g : Automaton) where
+  -- what enters a test enters every wider one
+  enters-wider : (f h : ℕ → Bool) → ((p : ℕ) → f p ≡ true → h p ≡ true) → (q : ℕ) → into all g f q ≡ true → into all g h q ≡ true
+  enters-wider f h w q = go all
+    where
+      go : (b : Bool) → into b g f q ≡ true → into b g h q ≡ true
+      go true e = every-all (g .symbols) (leadsInto g h q) (λ a l. w (g .next q a) (every-at (g .symbols) (leadsInto g f q) e a l))
+      go false e = (let b = any-find (g .symbols) (leadsInto g f q) e in any-at (g .symbols) (leadsInto g h q) (b .0) (b .1) (w (g .next q (b .0)) (b .2)))
 
-  grows-by : (i j p : ℕ) → spread g f i p ≡ true → spread g f (i + j) p ≡ true
-  grows-by i zero p t = rw (add-zero i) t
-  grows-by i (suc j) p t = rw (add-suc i j) (grows (i + j) p (grows-by i j p t))
+  module _ (f : ℕ → Bool) where
+    grows : (i p : ℕ) → spread all g f i p ≡ true → spread all g f (suc i) p ≡ true
+    unfolding spread
+    grows i p t = or-left (spread all g f i p) (eqb p i && into all g (spread all g f i) i) t
 
-  pub spread-keeps : (i p : ℕ) → f p ≡ true → spread g f i p ≡ true
-  unfolding spread
-  spread-keeps zero p t = t
-  spread-keeps (suc i) p t = grows i p (spread-keeps i p t)
+    grows-by : (i j p : ℕ) → spread all g f i p ≡ true → spread all g f (i + j) p ≡ true
+    grows-by i zero p t = rw (add-zero i) t
+    grows-by i (suc j) p t = rw (add-suc i j) (grows (i + j) p (grows-by i j p t))
 
-  -- what widening adds is a state below i from which some trace leads to a state that passes the test
-  pub spread-adds : (i p : ℕ) → spread g f i p ≡ true → Hits g f p × ((f p ≡ true) ⊎ (p < i))
-  unfolding spread
-  spread-adds zero p t = (hits-here g f p t, inl t)
-  spread-adds (suc i) p t =
-      ⊎-elim
-      (λ o. (let b = spread-adds i p o in (b .0, ⊎-elim (λ h. inl h) (λ l. inr (omega (arith, l))) (b .1))))
-      (λ n. (let here = eqb-true p i (and-left (eqb p i) (any (g .symbols) (leadsInto g (spread g f i) i)) n) in
-      let b = any-find (g .symbols) (leadsInto g (spread g f i) i) (and-right (eqb p i) (any (g .symbols) (leadsInto g (spread g f i) i)) n) in
-      (subst (Hits g f) (sym here) (hits-step g f i (b .0) (b .1) (spread-adds i (g .next i (b .0)) (b .2) .0)), inr (omega (arith, here)))))
-      (or-cases (spread g f i p) (eqb p i && any (g .symbols) (leadsInto g (spread g f i) i)) t)
+    pub spread-keeps : (i p : ℕ) → f p ≡ true → spread all g f i p ≡ true
+    unfolding spread
+    spread-keeps zero p t = t
+    spread-keeps (suc i) p t = grows i p (spread-keeps i p t)
 
-  -- where widening by n states adds nothing, no symbol leads from outside the test into it
-  pub spread-full : (n : ℕ) → ((p : ℕ) → p < n → spread g f n p ≡ f p) → (q a : ℕ) → q < n → a < g .symbols → f (g .next q a) ≡ true → f q ≡ true
-  unfolding spread
-  spread-full n full q a l h t =
-      sym (full q l)
-      ∙ subst (λ (i : ℕ). spread g f i q ≡ true) (add-sub-of-le l) (grows-by (suc q) (n - suc q) q
-      (or-right (spread g f q q) (eqb q q && any (g .symbols) (leadsInto g (spread g f q) q))
-      (and-both (eqb q q) (any (g .symbols) (leadsInto g (spread g f q) q)) (eq-eqb q q refl)
-      (any-at (g .symbols) (leadsInto g (spread g f q) q) a h (spread-keeps q (g .next q a) t)))))
+    -- a wider test that every state entering it passes takes in what widening adds
+    spread-least : (h : ℕ → Bool) → ((p : ℕ) → f p ≡ true → h p ≡ true) → (i : ℕ) → ((q : ℕ) → q < i → into all g h q ≡ true → h q ≡ true)
+        → (p : ℕ) → spread all g f i p ≡ true → h p ≡ true
+    unfolding spread
+    spread-least h w zero full p t = w p t
+    spread-least h w (suc i) full p t =
+        let below = spread-least h w i (λ q l. full q (omega (arith, l))) in
+        let new = into all g (spread all g f i) i in
+        ⊎-elim (below p)
+        (λ n. subst (λ (x : ℕ). h x ≡ true) (sym (eqb-true p i (and-left (eqb p i) new n)))
+        (full i (omega arith) (enters-wider (spread all g f i) h below i (and-right (eqb p i) new n))))
+        (or-cases (spread all g f i p) (eqb p i && new) t)
 
--- what is known of a test that grew from f by widening
-pub record Widening (g : Automaton) (f wide : ℕ → Bool) : Type 0 where
+    -- where widening by n states adds nothing, the test passes every state that enters it
+    spread-full : (n : ℕ) → ((p : ℕ) → p < n → spread all g f n p ≡ f p) → (q : ℕ) → q < n → into all g f q ≡ true → f q ≡ true
+    unfolding spread
+    spread-full n full q l t =
+        let new = into all g (spread all g f q) q in
+        sym (full q l)
+        ∙ subst (λ (i : ℕ). spread all g f i q ≡ true) (add-sub-of-le l) (grows-by (suc q) (n - suc q) q
+        (or-right (spread all g f q q) (eqb q q && new)
+        (and-both (eqb q q) new (eq-eqb q q refl) (enters-wider f (spread all g f q) (spread-keeps q) q t))))
+
+-- what is known of a test that grew from f by widening: all of `Least` but that it is full
+pub record Widening (all : Bool) (g : Automaton) (f wide : ℕ → Bool) : Type 0 where
   pub keeps : (q : ℕ) → f q ≡ true → wide q ≡ true
-  pub sound : (q : ℕ) → wide q ≡ true → Hits g f q
-  pub inside : (q : ℕ) → wide q ≡ true → (f q ≡ true) ⊎ (q < g .states)
+  pub least : (h : ℕ → Bool) → ((q : ℕ) → f q ≡ true → h q ≡ true) → ((q : ℕ) → q < g .states → into all g h q ≡ true → h q ≡ true)
+      → (q : ℕ) → wide q ≡ true → h q ≡ true
 
-pub widening-first : (g : Automaton) (f : ℕ → Bool) → Widening g f f
-widening-first g f = record { keeps = λ q t. t; sound = λ q t. hits-here g f q t; inside = λ q t. inl t }
+pub widening-first : (all : Bool) (g : Automaton) (f : ℕ → Bool) → Widening all g f f
+widening-first all g f = record { keeps = λ q t. t; least = λ h w full q t. w q t }
 
-hits-through : {g : Automaton} {f wide : ℕ → Bool} → ((q : ℕ) → wide q ≡ true → Hits g f q) → (q : ℕ) → Hits g wide q → Hits g f q
-hits-through {g} {f} {wide} sound q h =
-    let m = sound (run g q (h .word)) (h .passes) in
-    record {
-      word = h .word ++ m .word;
-      trace = trace-append g (h .word) (m .word) (h .trace) (m .trace);
-      passes = ap f (run-append g q (h .word) (m .word)) ∙ m .passes;
-    }
+module _ {all : Bool} {g : Automaton} {f wide : ℕ → Bool} (w : Widening all g f wide) where
+  pub widening-turn : (wider : ℕ → Bool) → ((p : ℕ) → wider p ≡ spread all g wide (g .states) p) → Widening all g f wider
+  widening-turn wider e = record {
+    keeps = λ q t. e q ∙ spread-keeps all g wide (g .states) q (w .keeps q t);
+    least = λ h f⊆h full q t. spread-least all g wide h (w .least h f⊆h full) (g .states) full q (sym (e q) ∙ t);
+  }
 
-pub widening-turn : {g : Automaton} {f wide : ℕ → Bool} (wider : ℕ → Bool) → Widening g f wide → ((p : ℕ) → wider p ≡ spread g wide (g .states) p)
-    → Widening g f wider
-widening-turn {g} {f} {wide} wider w e = record {
-  keeps = λ q t. e q ∙ spread-keeps g wide (g .states) q (w .keeps q t);
-  sound = λ q t. hits-through (w .sound) q (spread-adds g wide (g .states) q (sym (e q) ∙ t) .0);
-  inside = λ q t. ⊎-elim (w .inside q) (λ l. inr l) (spread-adds g wide (g .states) q (sym (e q) ∙ t) .1);
-}
+  pub widening-last : ((p : ℕ) → p < g .states → spread all g wide (g .states) p ≡ wide p) → Least all g f wide
+  widening-last full = record { holds = w .keeps; full = spread-full all g wide (g .states) full; least = w .least }
 
--- with nothing added, the test passes what f passes, and the states from which some trace leads to a state that f passes
-pub widening-last : {g : Automaton} {f wide : ℕ → Bool} → Closed g → Widening g f wide → ((p : ℕ) → p < g .states → spread g wide (g .states) p ≡ wide p)
-    → (q : ℕ) → wide q ≡ (f q || (ltb q (g .states) && leads g f q))
-unfolding Trace run
-widening-last {g} {f} {wide} c w full q =
-    both-ways
-    (λ e. ⊎-elim (or-left (f q) (ltb q (g .states) && leads g f q))
-    (λ l. or-right (f q) (ltb q (g .states) && leads g f q)
-    (and-both (ltb q (g .states)) (leads g f q) (lt-ltb q (g .states) l) (leads-complete g f c q l (w .sound q e)))) (w .inside q e))
-    (λ e. ⊎-elim (w .keeps q) reaches (or-cases (f q) (ltb q (g .states) && leads g f q) e))
-  where
-    back : (p : ℕ) (v : List ℕ) → p < g .states → Trace g v → f (run g p v) ≡ true → wide p ≡ true
-    back p [] l h e = w .keeps p e
-    back p (a ∷ v) l h e = spread-full g wide (g .states) full p a l (h .0) (back (g .next p a) v (c .next-in p a l (h .0)) (h .1) e)
+-- ---- the least test is what `leads` and `bound` say
 
-    reaches : (ltb q (g .states) && leads g f q) ≡ true → wide q ≡ true
-    reaches e =
-        let h = leads-sound g f q (and-right (ltb q (g .states)) (leads g f q) e) in
-        back q (h .word) (ltb-true q (g .states) (and-left (ltb q (g .states)) (leads g f q) e)) (h .trace) (h .passes)
+module _ {g : Automaton} (c : Closed g) (f : ℕ → Bool) where
+  -- f, or at a state the test of it
+  abbrev or-at : (ℕ → Bool) → ℕ → Bool
+  or-at test q = f q || (ltb q (g .states) && test q)
+
+  or-here : (test : ℕ → Bool) (q : ℕ) → f q ≡ true → or-at test q ≡ true
+  or-here test q t = or-left (f q) (ltb q (g .states) && test q) t
+
+  or-there : (test : ℕ → Bool) (q : ℕ) → q < g .states → test q ≡ true → or-at test q ≡ true
+  or-there test q l t = or-right (f q) (ltb q (g .states) && test q) (and-both (ltb q (g .states)) (test q) (lt-ltb q (g .states) l) t)
+
+  -- the second implies the first where the test does
+  or-either : (test h : ℕ → Bool) → ((q : ℕ) → f q ≡ true → h q ≡ true) → ((q : ℕ) → q < g .states → test q ≡ true → h q ≡ true)
+      → (q : ℕ) → or-at test q ≡ true → h q ≡ true
+  or-either test h here there q t =
+      ⊎-elim (here q)
+      (λ b. there q (ltb-true q (g .states) (and-left (ltb q (g .states)) (test q) b)) (and-right (ltb q (g .states)) (test q) b))
+      (or-cases (f q) (ltb q (g .states) && test q) t)
+
+  pub least-leads : {wide : ℕ → Bool} → Least false g f wide → (q : ℕ) → wide q ≡ (f q || (ltb q (g .states) && leads g f q))
+  unfolding Trace run
+  least-leads {wide} w q =
+      both-ways (w .least (or-at (leads g f)) (or-here (leads g f)) enter q) (or-either (leads g f) wide (w .holds) (λ p l t. back p l (leads-sound g f p t)) q)
+    where
+      hits : (p : ℕ) → or-at (leads g f) p ≡ true → Hits g f p
+      hits p t =
+          ⊎-elim (hits-here g f p) (λ b. leads-sound g f p (and-right (ltb p (g .states)) (leads g f p) b))
+          (or-cases (f p) (ltb p (g .states) && leads g f p) t)
+
+      enter : (p : ℕ) → p < g .states → into false g (or-at (leads g f)) p ≡ true → or-at (leads g f) p ≡ true
+      enter p l t =
+          let b = any-find (g .symbols) (leadsInto g (or-at (leads g f)) p) t in
+          or-there (leads g f) p l (leads-complete g f c p l (hits-step g f p (b .0) (b .1) (hits (g .next p (b .0)) (b .2))))
+
+      along : (p : ℕ) (v : List ℕ) → p < g .states → Trace g v → f (run g p v) ≡ true → wide p ≡ true
+      along p [] l h e = w .holds p e
+      along p (a ∷ v) l h e =
+          w .full p l (any-at (g .symbols) (leadsInto g wide p) a (h .0) (along (g .next p a) v (c .next-in p a l (h .0)) (h .1) e))
+
+      back : (p : ℕ) → p < g .states → Hits g f p → wide p ≡ true
+      back p l h = along p (h .word) l (h .trace) (h .passes)
+
+  pub least-bound : {wide : ℕ → Bool} → Least true g f wide → (q : ℕ) → wide q ≡ (f q || (ltb q (g .states) && bound g f q))
+  unfolding bound boundWithin
+  least-bound {wide} w q = both-ways (w .least (or-at (bound g f)) (or-here (bound g f)) enter q) (or-either (bound g f) wide (w .holds) (back (g .states)) q)
+    where
+      enter : (p : ℕ) → p < g .states → into true g (or-at (bound g f)) p ≡ true → or-at (bound g f) p ≡ true
+      enter p l t =
+          or-there (bound g f) p l (bound-enough g f c (suc (g .states)) p l (bound-step g f (g .states) p
+          (λ a i. or-either (bound g f) (bound g f) (bound-here g f (g .states)) (λ q l t. t) (g .next p a)
+          (every-at (g .symbols) (leadsInto g (or-at (bound g f)) p) t a i))))
+
+      back : (r p : ℕ) → p < g .states → boundWithin g f r p ≡ true → wide p ≡ true
+      back zero p l e = w .holds p e
+      back (suc r) p l e =
+          ⊎-elim (w .holds p)
+          (λ h. w .full p l (every-all (g .symbols) (leadsInto g wide p) (λ a i. back r (g .next p a) (c .next-in p a l i)
+          (every-at (g .symbols) (λ x. boundWithin g f r (g .next p x)) h a i))))
+          (or-cases (f p) (every (g .symbols) (λ a. boundWithin g f r (g .next p a))) e)

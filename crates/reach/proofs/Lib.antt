@@ -1,3 +1,4 @@
 pub mod Closure
 pub mod Steps
 pub mod Rounds
+pub mod Exactly

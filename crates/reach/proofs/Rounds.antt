@@ -7,9 +7,9 @@ use native.Mathlib.Omega.{arith}
 use lib.Dec.{eqb, ltb}
 use borrow.Author.Tests.{eq-eqb, not-true}
 use Rattle.theory.specs.Below.{any, count, first}
-use Rattle.theory.specs.Automaton.{Automaton, Closed, leads, reachedFrom}
+use Rattle.theory.specs.Automaton.{Automaton, Closed, reachedFrom}
 use Rattle.theory.proofs.Below.{or-left, or-right, and-left, and-right, count-le, count-mono, count-more, count-full, first-below, first-here}
-use Rattle.reach.specs.Closure.{leadsTo, spread}
+use Rattle.reach.specs.Closure.{leadsTo, spread, Least}
 use Rattle.reach.proofs.Closure.{Expanding, expanding-first, expanding-turn, expanding-last, Widening, widening-turn, widening-last, spread-keeps}
 use Rattle.reach.proofs.Steps.{with-in}
 
@@ -53,17 +53,17 @@ module _ {g : Automaton} {s : ℕ} {seen done : ℕ → Bool} (x : Expanding g s
 
 -- ---- widening by all states
 
-module _ {g : Automaton} {f wide : ℕ → Bool} (w : Widening g f wide) (limit : ℕ) (small : g .states ≤ limit) (wider : ℕ → Bool)
-    (e : (p : ℕ) → wider p ≡ spread g wide (g .states) p) where
+module _ {all : Bool} {g : Automaton} {f wide : ℕ → Bool} (w : Widening all g f wide) (limit : ℕ) (small : g .states ≤ limit) (wider : ℕ → Bool)
+    (e : (p : ℕ) → wider p ≡ spread all g wide (g .states) p) where
   keeps : (p : ℕ) → wide p ≡ true → wider p ≡ true
-  keeps p t = e p ∙ spread-keeps g wide (g .states) p t
+  keeps p t = e p ∙ spread-keeps all g wide (g .states) p t
 
-  pub widen-turn : Widening g f wider
-  widen-turn = widening-turn wider w e
+  pub widen-turn : Widening all g f wider
+  widen-turn = widening-turn w wider e
 
   pub widen-less : {a b : ℕ} → a ≡ count limit wider → b ≡ count limit wide → (a ≡ b → ⊥) → limit - count limit wider < limit - count limit wide
   widen-less i j ne = omega (arith, i, j, ne, count-mono limit wide wider (λ p _ t. keeps p t), count-le limit wider)
 
-  pub widen-last : {a b : ℕ} → a ≡ count limit wider → b ≡ count limit wide → a ≡ b → Closed g → (p : ℕ) → wide p ≡ (f p || (ltb p (g .states) && leads g f p))
-  widen-last i j same c =
-      widening-last c w (λ p l. sym (e p) ∙ count-full limit wide wider (λ p _ t. keeps p t) (sym i ∙ same ∙ j) p (lt-of-lt-of-le l small))
+  pub widen-last : {a b : ℕ} → a ≡ count limit wider → b ≡ count limit wide → a ≡ b → Least all g f wide
+  widen-last i j same =
+      widening-last w (λ p l. sym (e p) ∙ count-full limit wide wider (λ p _ t. keeps p t) (sym i ∙ same ∙ j) p (lt-of-lt-of-le l small))

@@ -1,15 +1,15 @@
-// Which states can be reached from a state, and from which states a set can be reached.
+// Which states can be reached from a state, from which states a set can be reached, and from which nothing can avoid it.
 use state_set::StateSet;
 ghost use mathlib.Core.Path.{_≡_};
 ghost use mathlib.Core.Bool.{_&&_, _||_};
 ghost use Prim.Native.Nat.{ℕ, _<_};
 ghost use lib.Dec.{ltb};
 ghost use Rattle.theory.specs.Below.{any};
-ghost use Rattle.theory.specs.Automaton.{leads, reachedFrom};
+ghost use Rattle.theory.specs.Automaton.{leads, bound, reachedFrom};
 ghost use Rattle.theory.specs.Monitor.{stateLimit};
 ghost use Rattle.state_set.specs.Member.{member, Exactly};
 ghost use Rattle.monitor.specs.Format.{Rows, graph};
-ghost use Rattle.reach.specs.Closure.{leadsTo, leadsInto, widened, spread};
+ghost use Rattle.reach.specs.Closure.{leadsTo, into, widened, spread, Least};
 
 // The states that one symbol leads to from q.
 fn successors(nexts: &[u8], n: usize, k: usize, q: usize) -> StateSet
@@ -44,63 +44,80 @@ pub fn reachable(nexts: &[u8], n: usize, k: usize, start: usize) -> StateSet
     }
 }
 
-// Whether some symbol leads from q into the set.
-fn enters(nexts: &[u8], n: usize, k: usize, q: usize, set: StateSet) -> bool
+// Whether some symbol leads from q into the set or, if `all`, every symbol does.
+fn enters(nexts: &[u8], n: usize, k: usize, q: usize, set: StateSet, all: bool) -> bool
     requires { ⌜ Rows stateLimit n k (now nexts)
         × (q < n) ⌝ }
-    ensures { λ r. ⌜ r ≡ any k (leadsInto (graph n k (nexts .entry)) (member set) q) ⌝ }
+    ensures { λ r. ⌜ r ≡ into all (graph n k (nexts .entry)) (member set) q ⌝ }
 {
     let mut a = 0;
     while a < k {
-        if set.has(monitor::successor(nexts, n, k, q, a)) {
-            return true;
+        if set.has(monitor::successor(nexts, n, k, q, a)) != all {
+            return !all;
         }
         a += 1;
     }
-    false
+    all
 }
 
-// The set, with q in it too where some symbol leads from q into the set.
-fn widen(nexts: &[u8], n: usize, k: usize, q: usize, set: StateSet) -> StateSet
+// The set, with q in it too where q enters it.
+fn widen(nexts: &[u8], n: usize, k: usize, q: usize, set: StateSet, all: bool) -> StateSet
     requires { ⌜ Rows stateLimit n k (now nexts)
         × (q < n) ⌝ }
-    ensures { λ r. ⌜ ((p : ℕ) → member r p ≡ widened (graph n k (nexts .entry)) (member set) q p) ⌝ }
+    ensures { λ r. ⌜ ((p : ℕ) → member r p ≡ widened all (graph n k (nexts .entry)) (member set) q p) ⌝ }
 {
     if set.has(q) {
         return set;
     }
-    if enters(nexts, n, k, q, set) {
+    if enters(nexts, n, k, q, set, all) {
         return set.with(q);
     }
     set
 }
 
 // The set widened by each state in turn.
-fn widen_all(nexts: &[u8], n: usize, k: usize, set: StateSet) -> StateSet
+fn widen_all(nexts: &[u8], n: usize, k: usize, set: StateSet, all: bool) -> StateSet
     requires { ⌜ Rows stateLimit n k (now nexts) ⌝ }
-    ensures { λ r. ⌜ ((p : ℕ) → member r p ≡ spread (graph n k (nexts .entry)) (member set) n p) ⌝ }
+    ensures { λ r. ⌜ ((p : ℕ) → member r p ≡ spread all (graph n k (nexts .entry)) (member set) n p) ⌝ }
 {
     let mut wider = set;
     let mut q = 0;
     while q < n {
-        wider = widen(nexts, n, k, q, wider);
+        wider = widen(nexts, n, k, q, wider, all);
         q += 1;
     }
     wider
 }
 
-// The targets, and the states from which some trace leads into them: widened until nothing is added.
-pub fn reaching(nexts: &[u8], n: usize, k: usize, targets: StateSet) -> StateSet
+// The targets, widened until nothing is added.
+fn widen_fully(nexts: &[u8], n: usize, k: usize, targets: StateSet, all: bool) -> StateSet
     requires { ⌜ Rows stateLimit n k (now nexts) ⌝ }
-    ensures { λ r. ⌜ ((p : ℕ) → member r p
-        ≡ (member targets p || (ltb p n && leads (graph n k (nexts .entry)) (member targets) p))) ⌝ }
+    ensures { λ r. ⌜ Least all (graph n k (nexts .entry)) (member targets) (member r) ⌝ }
 {
     let mut set = targets;
     loop {
-        let wider = widen_all(nexts, n, k, set);
+        let wider = widen_all(nexts, n, k, set, all);
         if wider.count() == set.count() {
             return set;
         }
         set = wider;
     }
+}
+
+// The targets, and the states from which some trace leads into them.
+pub fn reaching(nexts: &[u8], n: usize, k: usize, targets: StateSet) -> StateSet
+    requires { ⌜ Rows stateLimit n k (now nexts) ⌝ }
+    ensures { λ r. ⌜ ((p : ℕ) → member r p
+        ≡ (member targets p || (ltb p n && leads (graph n k (nexts .entry)) (member targets) p))) ⌝ }
+{
+    widen_fully(nexts, n, k, targets, false)
+}
+
+// The targets, and the states from which every trace of some length leads into them or past one.
+pub fn bound_for(nexts: &[u8], n: usize, k: usize, targets: StateSet) -> StateSet
+    requires { ⌜ Rows stateLimit n k (now nexts) ⌝ }
+    ensures { λ r. ⌜ ((p : ℕ) → member r p
+        ≡ (member targets p || (ltb p n && bound (graph n k (nexts .entry)) (member targets) p))) ⌝ }
+{
+    widen_fully(nexts, n, k, targets, true)
 }

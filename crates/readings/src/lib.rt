@@ -1,7 +1,7 @@
 // What a monitor reads: after one step from a state, and after a trace from its start.
 use basics::Refusal;
-use monitor::Opened;
 use monitor::Shape;
+use opening::Opened;
 use theory::STATE_LIMIT;
 ghost use mathlib.Core.Path.{_≡_};
 ghost use mathlib.Core.Bool.{_||_, cond};
@@ -154,7 +154,7 @@ pub fn step(body: &[u8], domain: usize, state: usize, symbol: usize) -> Stepped
     ensures { λ r. ⌜ stepped r ≡ stepAnswer stateLimit (now (body .entry)) domain state symbol ⌝ }
 {
     let mut marks = [0u8; STATE_LIMIT];
-    match monitor::open(body, &mut marks) {
+    match opening::open(body, &mut marks) {
         Opened::Refused(r) => Stepped::Refused(r),
         Opened::Table(t) => {
             let n = t.states;
@@ -204,7 +204,7 @@ pub fn trace(body: &[u8], domain: usize, symbols: &[u8]) -> Traced
     ensures { λ r. ⌜ traced r ≡ traceAnswer stateLimit (now (body .entry)) domain (now (symbols .entry)) ⌝ }
 {
     let mut marks = [0u8; STATE_LIMIT];
-    match monitor::open(body, &mut marks) {
+    match opening::open(body, &mut marks) {
         Opened::Refused(r) => Traced::Refused(r),
         Opened::Table(t) => {
             let n = t.states;

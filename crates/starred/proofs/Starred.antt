@@ -5,10 +5,11 @@ use mathlib.Core.Option.{Option, none, some, Option·map, map-eq-some-iff}
 use Prim.Native.Nat.{ℕ, suc, _≤_, _<_}
 use lib.Dec.{lit<, lit≤}
 use lib.ListN.{length}
-use Rattle.theory.specs.Below.{any, first}
+use Rattle.theory.specs.Below.{any, first, values}
 use Rattle.theory.specs.Lists.{find, each}
-use Rattle.theory.specs.Automaton.{Automaton, run, within, leads}
+use Rattle.theory.specs.Automaton.{Automaton, run, within, leads, boundWithin, bound}
 use Rattle.theory.specs.Monitor.{Monitor, WellFormed, class, monitorability, reading, stateLimit}
+use Rattle.theory.specs.Settled.{settledMark}
 use Rattle.theory.specs.Pairs.{told}
 use Rattle.theory.specs.Faults.{steps}
 use Rattle.theory.specs.Series.{Series, sentTrace, harmful, words, series}
@@ -19,7 +20,7 @@ use Rattle.theory.proofs.Faults.{steps-good}
 use Rattle.theory.proofs.Witness.{strikes, found-early, found-never}
 use Rattle.theory.proofs.Exact.{class-exact, monitorability-exact}
 use Rattle.theory.proofs.Distance.{distance-exact, witness-first}
-use Rattle.monitor.specs.Format.{statesOf, monitorOf}
+use Rattle.monitor.specs.Format.{statesOf, settledMarks, monitorOf}
 use Rattle.monitor.specs.Questions.{judgeAnswer}
 use Rattle.monitor.proofs.Accepted.{accepted-table}
 use Rattle.starred.specs.Starred.{Fact, monitorable, classed, immune, distant, witnessed, Accepted, UnderBoth, Witnessed, Holds, Hold, starred}
@@ -108,7 +109,7 @@ hold-by end = tt
 hold-by (_also_ {f} {fs} c cs) = (holds-by f c, hold-by cs)
 
 pub starred-hold : Hold starred
-unfolding flatMap judgeAnswer first any find each within leads run class monitorability reading told steps words series
+unfolding flatMap judgeAnswer first any values find each within leads boundWithin bound run settledMark settledMarks class monitorability reading told steps words series
 starred-hold =
     hold-by {fs = starred}
     ((refl, refl) also (refl, refl) also (refl, refl) also (refl, refl)
@@ -116,4 +117,4 @@ starred-hold =
     also (refl, lit≤ tt, (refl, refl)) also (refl, lit≤ tt, (refl, refl))
     also (refl, lit≤ tt, (refl, refl)) also (refl, lit≤ tt, (refl, refl))
     also (refl, lit≤ tt, refl) also (refl, lit≤ tt, refl)
-    also (refl, lit< tt, refl) also (refl, lit≤ tt, refl) also (refl, lit≤ tt, refl) also end)
+    also (refl, lit< tt, refl) also (refl, (refl, refl)) also end)

@@ -1,4 +1,4 @@
--- The starred facts of 01 as a list, and what each one says in terms of the published definitions.
+-- The starred facts of 01, with that on H as 02 has it, as a list, and what each one says in terms of the published definitions.
 use mathlib.Core.Path.{_≡_}
 use mathlib.Core.List.{List, [], _∷_}
 use Prim.Native.Nat.{ℕ}
@@ -87,5 +87,5 @@ starred =
     ∷ witnessed E 4 (1 ∷ []) 0 0 ∷ witnessed E 8 (0 ∷ 1 ∷ 1 ∷ []) 0 0
     -- "G, corruption: reading 3 gives 2, reading 6 gives 1."
     ∷ distant G 3 2 2 ∷ distant G 6 2 1
-    -- "H: state 0 positive, loss distance 1."
-    ∷ classed H 0 2 ∷ distant H 3 1 1 ∷ distant H 6 1 1 ∷ []
+    -- "The starred fact on H becomes: state 0 good, immune to everything." (02, note 5)
+    ∷ classed H 0 0 ∷ immune H 15 ∷ []

@@ -1,14 +1,14 @@
 -- The laws of `any`, `count` and `first`.
 use mathlib.Core.Path.{_≡_, refl, sym, ap, _∙_, subst}
-use mathlib.Core.Bool.{Bool, true, false, cond, _&&_, _||_, true≢false, or-comm}
+use mathlib.Core.Bool.{Bool, true, false, not, cond, _&&_, _||_, true≢false, or-comm}
 use mathlib.Core.Logic.{_⊎_, inl, inr, ⊎-elim}
 use Prim.Native.Nat.{ℕ, zero, suc, _+_, _≤_, _<_, suc-le-suc}
 use native.Mathlib.Nat.{le-refl, le-of-suc-le-suc, not-suc-le-zero, eq-or-lt-of-le, le-of-lt}
 use native.Mathlib.Numerals.{add-one}
 use native.Mathlib.Omega.{arith}
-use lib.Dec.{ltb}
-use borrow.Author.Tests.{ltb-true, ltb-false, lt-ltb}
-use Rattle.theory.specs.Below.{any, count, first}
+use lib.Dec.{eqb, ltb}
+use borrow.Author.Tests.{ltb-true, ltb-false, lt-ltb, eqb-true, eqb-false, not-true}
+use Rattle.theory.specs.Below.{any, every, count, first}
 
 -- ---- Booleans
 
@@ -60,6 +60,13 @@ lt-or-le i n = go (ltb i n) refl
     go true e = inl (ltb-true i n e)
     go false e = inr (ltb-false i n e)
 
+pub same-or-not : (x y : ℕ) → (x ≡ y) ⊎ (x ≡ y → ⊥)
+same-or-not x y = go (eqb x y) refl
+  where
+    go : (b : Bool) → eqb x y ≡ b → (x ≡ y) ⊎ (x ≡ y → ⊥)
+    go true e = inl (eqb-true x y e)
+    go false e = inr (eqb-false x y e)
+
 -- ---- any
 
 pub any-at : (n : ℕ) (f : ℕ → Bool) (i : ℕ) → i < n → f i ≡ true → any n f ≡ true
@@ -93,6 +100,17 @@ any-short m n f l h =
     both-ways
     (λ t. (let b = any-find n f t in ⊎-elim (λ s. any-at m f (b .0) s (b .2)) (λ g. absurd (clash (b .2) (h (b .0) g (b .1)))) (lt-or-le (b .0) m)))
     (λ t. (let b = any-find m f t in any-at n f (b .0) (omega (arith, b .1)) (b .2)))
+
+-- ---- every
+
+pub every-at : (n : ℕ) (f : ℕ → Bool) → every n f ≡ true → (i : ℕ) → i < n → f i ≡ true
+every-at n f e i l = is-true (λ h. clash (any-at n (λ j. not (f j)) i l (ap not h)) (not-true (any n (λ j. not (f j))) e))
+
+pub every-all : (n : ℕ) (f : ℕ → Bool) → ((i : ℕ) → i < n → f i ≡ true) → every n f ≡ true
+every-all n f h = ap not (not-clash (λ t. (let b = any-find n (λ j. not (f j)) t in clash (h (b .0) (b .1)) (not-true (f (b .0)) (b .2)))))
+
+pub every-same : (n : ℕ) (f g : ℕ → Bool) → ((i : ℕ) → i < n → f i ≡ g i) → every n f ≡ every n g
+every-same n f g h = ap not (any-same n (λ j. not (f j)) (λ j. not (g j)) (λ i l. ap not (h i l)))
 
 -- ---- count
 

@@ -4,10 +4,12 @@ pub mod Bits
 pub mod Scan
 pub mod Values
 pub mod Answer
-pub mod Settle
+pub mod Rounds
 pub mod Reach
 pub mod Exact
 pub mod Count
+pub mod Bound
+pub mod Settled
 pub mod Pairs
 pub mod Order
 pub mod Series

@@ -12,7 +12,7 @@ use Rattle.theory.specs.Below.{any}
 use Rattle.theory.specs.Automaton.{Automaton, Closed, Trace, run}
 use Rattle.theory.specs.Pairs.{Tells, told}
 use Rattle.theory.proofs.Below.{lt-or-le, or-cases, or-left, or-right, any-at, any-find, any-same}
-use Rattle.theory.proofs.Settle.{settled}
+use Rattle.theory.proofs.Rounds.{stopped}
 use Rattle.theory.proofs.Reach.{run-in}
 
 module _ (g : Automaton) (ends : ℕ → ℕ → Bool) where
@@ -115,7 +115,7 @@ module _ (g : Automaton) (ends : ℕ → ℕ → Bool) where
     told-settled s p q lp lq e =
         subst (λ (x : ℕ). told g ends (n * n) p x ≡ true) (digits-mod p lq)
         (subst (λ (x : ℕ). told g ends (n * n) x ((p * n + q) % n) ≡ true) (digits-div p lq)
-        (sym (settled (n * n) pair (λ r i _. told-more r (i / n) (i % n)) stays s (p * n + q) (digits-lt lp lq)) ∙ later))
+        (sym (stopped (n * n) pair (λ r i _. told-more r (i / n) (i % n)) stays s (p * n + q) (digits-lt lp lq)) ∙ later))
       where
         stays : (r : ℕ) → ((i : ℕ) → i < n * n → pair (suc r) i ≡ pair r i) → (i : ℕ) → i < n * n → pair (suc (suc r)) i ≡ pair (suc r) i
         stays r h i l = still-on r (pair-still r h) (i / n) (i % n) (div-lt-iff-lt-mul (omega (arith, lp)) .1 l) (mod-lt i (omega (arith, lp)))

@@ -12,7 +12,7 @@ use borrow.Author.Tests.{eqb-true, eq-eqb}
 use Rattle.theory.specs.Below.{any}
 use Rattle.theory.specs.Automaton.{Automaton, Closed, Trace, run, Reaches, within, leads, reachedFrom}
 use Rattle.theory.proofs.Below.{both-ways, or-cases, or-left, or-right, any-at, any-find, any-same}
-use Rattle.theory.proofs.Settle.{settled}
+use Rattle.theory.proofs.Rounds.{stopped}
 
 -- ---- runs
 
@@ -118,7 +118,7 @@ module _ (g : Automaton) (f : ℕ → Bool) where
   pub leads-complete : Closed g → (q : ℕ) → q < g .states → Hits g f q → leads g f q ≡ true
   unfolding leads
   leads-complete c q l h =
-      sym (settled (g .states) (within g f) (λ r p _. within-more r p) (within-stays c) (length (h .word)) q l)
+      sym (stopped (g .states) (within g f) (λ r p _. within-more r p) (within-stays c) (length (h .word)) q l)
       ∙ within-complete (g .states + length (h .word)) q (h .word) (omega arith) (h .trace) (h .passes)
 
 -- only the states matter: tests that agree on them lead alike

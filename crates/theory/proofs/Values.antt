@@ -1,6 +1,6 @@
 -- Filling a list with values, from the front.
 use mathlib.Core.Path.{_≡_, refl, sym, ap, _∙_}
-use mathlib.Core.List.{List, [], _∷_, _++_, append-assoc}
+use mathlib.Core.List.{List, [], _∷_, _++_, append-assoc, append-nil}
 use mathlib.Core.Logic.{⊎-elim}
 use Prim.Native.Nat.{ℕ, zero, suc, _+_, _≤_, _<_}
 use native.Mathlib.Nat.{le-refl, le-of-suc-le-suc, not-suc-le-zero, eq-or-lt-of-le}
@@ -54,3 +54,6 @@ getD-filled f rest (suc n) q l =
     (λ (e : q ≡ n). rw e (getD-at (values n f) (f n) rest 0 n (length-values n f)))
     (λ s. getD-filled f (f n ∷ rest) n q s)
     (eq-or-lt-of-le (le-of-suc-le-suc l))
+
+pub getD-values : (n : ℕ) (f : ℕ → ℕ) (q : ℕ) → q < n → getD (values n f) q 0 ≡ f q
+getD-values n f q l = ap (λ (xs : List ℕ). getD xs q 0) (sym (append-nil (values n f))) ∙ getD-filled f [] n q l

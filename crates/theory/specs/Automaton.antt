@@ -4,7 +4,7 @@ use mathlib.Core.Bool.{Bool, _||_}
 use mathlib.Core.List.{List, [], _∷_}
 use Prim.Native.Nat.{ℕ, zero, suc, _<_}
 use lib.Dec.{eqb}
-use Rattle.theory.specs.Below.{any}
+use Rattle.theory.specs.Below.{any, every}
 
 -- n states, k symbols (01's messages) and the successor (next state) of a state under a symbol; all count from 0
 pub record Automaton : Type 0 where
@@ -41,6 +41,15 @@ within g f (suc r) q = f q || any (g .symbols) (λ a. within g f r (g .next q a)
 -- (proofs/Reach.antt)
 unfoldable pub leads : Automaton → (ℕ → Bool) → ℕ → Bool
 leads g f q = within g f (g .states) q
+
+-- every trace of r symbols leads from q to a state that passes the test, or past one
+unfoldable pub boundWithin : Automaton → (ℕ → Bool) → ℕ → ℕ → Bool
+boundWithin g f zero q = f q
+boundWithin g f (suc r) q = f q || every (g .symbols) (λ a. boundWithin g f r (g .next q a))
+
+-- every trace of some length does: with n states, n symbols are enough (proofs/Bound.antt)
+unfoldable pub bound : Automaton → (ℕ → Bool) → ℕ → Bool
+bound g f q = boundWithin g f (g .states) q
 
 -- p can be reached from q, as a test of p
 abbrev pub reachedFrom : Automaton → ℕ → ℕ → Bool

@@ -1,6 +1,6 @@
--- Tests of the numbers below a bound: whether some number passes, how many pass, which is the first; and the values at
--- these numbers.
-use mathlib.Core.Bool.{Bool, false, cond, _||_}
+-- Tests of the numbers below a bound: whether some number passes, whether every one does, how many pass, which is the
+-- first; and the values at these numbers.
+use mathlib.Core.Bool.{Bool, false, not, cond, _||_}
 use mathlib.Core.List.{List, [], _∷_, _++_}
 use Prim.Native.Nat.{ℕ, zero, suc}
 
@@ -8,6 +8,10 @@ use Prim.Native.Nat.{ℕ, zero, suc}
 unfoldable pub any : ℕ → (ℕ → Bool) → Bool
 any zero f = false
 any (suc i) f = f i || any i f
+
+-- every number below n passes the test
+abbrev pub every : ℕ → (ℕ → Bool) → Bool
+every n f = not (any n (λ i. not (f i)))
 
 -- how many numbers below n pass the test
 unfoldable pub count : ℕ → (ℕ → Bool) → ℕ

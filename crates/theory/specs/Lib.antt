@@ -2,6 +2,7 @@ pub mod Below
 pub mod Lists
 pub mod Automaton
 pub mod Monitor
+pub mod Settled
 pub mod Answer
 pub mod Extent
 pub mod Count

@@ -4,8 +4,8 @@ use counts::Counts;
 use faults::Fault;
 use faults::FaultSet;
 use faults::Kind;
-use monitor::Opened;
 use monitor::Shape;
+use opening::Opened;
 use pairs::NEVER;
 use pairs::Test;
 use theory::SQUARE_SIZE;
@@ -250,7 +250,7 @@ pub fn first_witness(body: &[u8], set: usize, domain: usize, test: Test, area: &
         (witnessTrace (firstBy test (monitorOf (now (body .entry))) domain set)) (now (area .entry)) ⌝ }
 {
     let mut marks = [0u8; STATE_LIMIT];
-    match monitor::open(body, &mut marks) {
+    match opening::open(body, &mut marks) {
         Opened::Refused(r) => Outcome::Refused(r),
         Opened::Table(t) => {
             let n = t.states;

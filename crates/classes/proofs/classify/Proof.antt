@@ -3,7 +3,8 @@ use borrow.Author.Needs.{needs}
 use lib.ListN.{length}
 use Rattle.theory.specs.Monitor.{stateLimit}
 use Rattle.monitor.specs.Format.{monitorOf}
-use Rattle.monitor.proofs.Accepted.{opened-no, opened-yes, marks-counted, marks-lie, table-handed, opened-writes, refused-writes}
+use Rattle.monitor.proofs.Accepted.{refused-writes}
+use Rattle.opening.proofs.Handing.{opened-no, opened-yes, marks-counted, marks-lie, table-handed, opened-writes}
 use Rattle.classes.specs.Classify.{classList, classifyQuestions, classifyFigures, classifyAnswer}
 use Rattle.classes.proofs.classify.Statement.{statement}
 use Rattle.classes.proofs.classify.Tie as tie

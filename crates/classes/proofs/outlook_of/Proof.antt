@@ -1,7 +1,7 @@
 -- `outlook_of` meets its contract.
 use borrow.Author.Needs.{needs}
 use Rattle.monitor.proofs.Rows.{next-of-rows}
-use Rattle.classes.proofs.Tables.{exactly-at, reaching-is}
+use Rattle.reach.proofs.Exactly.{exactly-at, reaching-is}
 use Rattle.classes.proofs.outlook_of.Statement.{statement}
 use Rattle.classes.proofs.outlook_of.Tie as tie
 

@@ -6,7 +6,7 @@ use Rattle.theory.specs.Monitor.{stateLimit}
 use Rattle.theory.proofs.Answer.{asks-other, asks-refuses}
 use Rattle.monitor.specs.Format.{monitorOf}
 use Rattle.monitor.specs.Questions.{tableQuestions, judgeAnswer}
-use Rattle.monitor.proofs.Accepted.{opened-no, opened-yes, marks-counted, marks-lie, table-handed, monitor-handed}
+use Rattle.opening.proofs.Handing.{opened-no, opened-yes, marks-counted, marks-lie, table-handed, monitor-handed}
 use Rattle.immunity.specs.Findings.{cardAsking, cardAnswer}
 use Rattle.immunity.proofs.Columns.{card-asks, card-refuses}
 use Rattle.immunity.proofs.card.Statement.{statement}

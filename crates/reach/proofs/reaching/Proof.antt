@@ -1,49 +1,13 @@
--- `reaching` meets its contract: the set grew from the targets by widening, and has more states after each turn.
-use Prim.Native.Nat.{_-_}
+-- `reaching` meets its contract: the least test is what `leads` says.
 use borrow.Author.Needs.{needs}
-use Rattle.theory.specs.Below.{count}
-use Rattle.theory.specs.Monitor.{stateLimit}
 use Rattle.state_set.specs.Member.{member}
-use Rattle.monitor.specs.Format.{automatonOf}
 use Rattle.monitor.proofs.Rows.{next-of-rows}
-use Rattle.reach.proofs.Closure.{Widening, widening-first}
-use Rattle.reach.proofs.Rounds.{widen-turn, widen-less, widen-last}
+use Rattle.reach.proofs.Closure.{least-leads}
 use Rattle.reach.proofs.reaching.Statement.{statement}
 use Rattle.reach.proofs.reaching.Tie as tie
 
-abbrev Inv-loop : tie.InvT-loop
-Inv-loop nexts n k set₀ set = Widening (automatonOf n k nexts) (member set₀) (member set)
-
-abbrev μ-loop : tie.MeasureT-loop
-μ-loop nexts n k set₀ set = stateLimit - count stateLimit (member set)
-
-loop-holds : tie.Need-loop-holds Inv-loop μ-loop
-loop-holds c =
-    let a = c .before .args in
-    widening-first (automatonOf (a .n) (a .k) (a .nexts .now)) (member (a .targets))
-
-returns : tie.Need-returns Inv-loop μ-loop
-returns c =
-    let pre = c .before .before .before .before .before .before .pre in
-    let wide = c .before .before .before .widen-all in
-    widen-last (c .before .before .before .before .loop .inv) stateLimit (pre .states-most) (member (wide .result)) (wide .ensures)
-    (c .before .before .count .ensures) (c .before .count2 .ensures) (c .if1 .taken) (next-of-rows pre)
-
-loop-less : tie.Need-loop-less Inv-loop μ-loop
-loop-less c =
-    let wide = c .before .before .before .widen-all in
-    widen-less (c .before .before .before .before .loop .inv) stateLimit (c .before .before .before .before .before .before .pre .states-most)
-    (member (wide .result)) (wide .ensures)
-    (c .before .before .count .ensures) (c .before .count2 .ensures) (c .if1 .left)
-
-loop-again : tie.Need-loop-again Inv-loop μ-loop
-loop-again c =
-    let wide = c .before .before .before .widen-all in
-    widen-turn (c .before .before .before .before .loop .inv) stateLimit (c .before .before .before .before .before .before .pre .states-most)
-    (member (wide .result)) (wide .ensures)
+returns : tie.Need-returns
+returns c = least-leads (next-of-rows (c .before .before .pre)) (member (c .before .before .args .targets)) (c .widen-fully .ensures)
 
 pub reaching-spec : {M : Type 1} → statement M
-reaching-spec =
-    tie.close (tie.spec
-    Inv-loop μ-loop loop-holds (λ c κs. search needs) (λ c κs. search needs) (λ c κs. search needs) returns loop-less
-    loop-again)
+reaching-spec = tie.close (tie.spec (λ c κs. search needs) returns)

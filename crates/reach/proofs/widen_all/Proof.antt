@@ -11,10 +11,10 @@ use Rattle.reach.proofs.widen_all.Statement.{statement}
 use Rattle.reach.proofs.widen_all.Tie as tie
 
 abbrev Inv-loop : tie.InvT-loop
-Inv-loop nexts n k wider₀ q₀ wider q = (q ≤ n) × ((p : ℕ) → member wider p ≡ spread (automatonOf n k nexts) (member wider₀) q p)
+Inv-loop nexts n k all wider₀ q₀ wider q = (q ≤ n) × ((p : ℕ) → member wider p ≡ spread all (automatonOf n k nexts) (member wider₀) q p)
 
 abbrev μ-loop : tie.MeasureT-loop
-μ-loop nexts n k wider₀ q₀ wider q = n - q
+μ-loop nexts n k all wider₀ q₀ wider q = n - q
 
 loop-holds : tie.Need-loop-holds Inv-loop μ-loop
 unfolding spread
@@ -25,7 +25,7 @@ loop-again c =
     let a = c .before .before .before .before .args in
     let at = c .before .before .loop in (
       search needs,
-      spread-turn (automatonOf (a .n) (a .k) (a .nexts .now)) (member (a .set)) (at .q) (member (at .wider)) (member (c .widen .result)) (at .inv .1)
+      spread-turn (a .all) (automatonOf (a .n) (a .k) (a .nexts .now)) (member (a .set)) (at .q) (member (at .wider)) (member (c .widen .result)) (at .inv .1)
           (c .widen .ensures),
     )
 
@@ -33,7 +33,7 @@ returns : tie.Need-returns Inv-loop μ-loop
 returns c =
     let a = c .before .before .before .args in
     let at = c .before .loop in
-    λ p. at .inv .1 p ∙ ap (λ (i : ℕ). spread (automatonOf (a .n) (a .k) (a .nexts .now)) (member (a .set)) i p) (le-antisymm (at .inv .0) (c .loop-test .left))
+    λ p. at .inv .1 p ∙ ap (λ (i : ℕ). spread (a .all) (automatonOf (a .n) (a .k) (a .nexts .now)) (member (a .set)) i p) (le-antisymm (at .inv .0) (c .loop-test .left))
 
 pub widen-all-spec : {M : Type 1} → statement M
 widen-all-spec =

@@ -3,7 +3,8 @@ use lib.ListN.{length}
 use borrow.Author.Needs.{needs}
 use Rattle.theory.specs.Monitor.{stateLimit}
 use Rattle.monitor.specs.Format.{monitorOf}
-use Rattle.monitor.proofs.Accepted.{opened-no, opened-yes, marks-counted, marks-lie, table-handed, opened-writes, refused-writes}
+use Rattle.monitor.proofs.Accepted.{refused-writes}
+use Rattle.opening.proofs.Handing.{opened-no, opened-yes, marks-counted, marks-lie, table-handed, opened-writes}
 use Rattle.witness.specs.Figures.{witnessTrace, firstBy, figuresBy, witnessQuestions, witnessAnswer}
 use Rattle.witness.proofs.first_witness.Statement.{statement}
 use Rattle.witness.proofs.first_witness.Tie as tie

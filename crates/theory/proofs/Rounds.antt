@@ -1,8 +1,9 @@
--- A test of the numbers below n that grows from round to round, and that has stopped growing once a round adds nothing, has stopped after n rounds.
+-- A test of the numbers below n that grows from round to round, and that has stopped growing once a round adds nothing: after n rounds it has
+-- stopped, and after fewer where it passes some number at first.
 use mathlib.Core.Path.{_≡_, refl, ap, _∙_}
 use mathlib.Core.Bool.{Bool, true, false, not, _&&_}
 use mathlib.Core.Logic.{_⊎_, inl, inr, ⊎-elim}
-use Prim.Native.Nat.{ℕ, zero, suc, _+_, _<_}
+use Prim.Native.Nat.{ℕ, zero, suc, _+_, _≤_, _<_}
 use native.Mathlib.Nat.{add-zero, add-suc}
 use native.Mathlib.Omega.{arith}
 use borrow.Author.Tests.{not-true}
@@ -32,20 +33,25 @@ module _ (n : ℕ) (grown : ℕ → ℕ → Bool) where
             inl (λ p l. both-ways (λ t. is-true
             (λ h. clash (any-at n (added r) p l (and-both (grown (suc r) p) (not (grown r p)) t (ap not h))) e)) (more r p l))
 
-    still-or-many : (r : ℕ) → Still r ⊎ (r < count n (grown (suc r)))
+    still-or-many : (r : ℕ) → Still r ⊎ (count n (grown 0) + r < count n (grown (suc r)))
     still-or-many zero = ⊎-elim (λ s. inl s) (λ l. inr (omega (arith, l))) (still-or-more zero)
     still-or-many (suc r) =
         ⊎-elim (λ s. inl (stays r s)) (λ l. ⊎-elim (λ s. inl s) (λ m. inr (omega (arith, l, m))) (still-or-more (suc r))) (still-or-many r)
 
-    still : Still n
-    still = ⊎-elim (λ s. s) (λ l. absurd (omega (arith, l, count-le n (grown (suc n))))) (still-or-many n)
+    module _ (r : ℕ) (enough : n ≤ count n (grown 0) + r) where
+      still : Still r
+      still = ⊎-elim (λ s. s) (λ l. absurd (omega (arith, l, enough, count-le n (grown (suc r))))) (still-or-many r)
 
-    -- no round after n adds anything
-    pub settled : (j p : ℕ) → p < n → grown (n + j) p ≡ grown n p
-    settled j p l = both j .1 p l
-      where
-        both : (j : ℕ) → Still (n + j) × ((p : ℕ) → p < n → grown (n + j) p ≡ grown n p)
-        both zero = rw (add-zero n) (still, λ p l. refl)
-        both (suc j) =
-            let b = both j in
-            rw (add-suc n j) (stays (n + j) (b .0), λ p l. b .0 p l ∙ b .1 p l)
+      -- no round after r adds anything
+      pub stopped-at : (j p : ℕ) → p < n → grown (r + j) p ≡ grown r p
+      stopped-at j p l = both j .1 p l
+        where
+          both : (j : ℕ) → Still (r + j) × ((p : ℕ) → p < n → grown (r + j) p ≡ grown r p)
+          both zero = rw (add-zero r) (still, λ p l. refl)
+          both (suc j) =
+              let b = both j in
+              rw (add-suc r j) (stays (r + j) (b .0), λ p l. b .0 p l ∙ b .1 p l)
+
+    -- no round after n does
+    pub stopped : (j p : ℕ) → p < n → grown (n + j) p ≡ grown n p
+    stopped = stopped-at n (omega arith)

@@ -8,10 +8,10 @@ use borrow.Author.Needs.{needs}
 use borrow.Author.Tests.{eq-eqb, ne-eqb}
 use Rattle.theory.specs.Monitor.{stateLimit}
 use Rattle.state_set.specs.Member.{member, Exactly}
-use Rattle.classes.specs.Sets.{hasMark}
-use Rattle.classes.proofs.Marks.{marked-none, marked-more, marked-same}
-use Rattle.classes.proofs.states_marked.Statement.{statement}
-use Rattle.classes.proofs.states_marked.Tie as tie
+use Rattle.opening.specs.Sets.{hasMark}
+use Rattle.opening.proofs.Marks.{marked-none, marked-more, marked-same}
+use Rattle.opening.proofs.states_marked.Statement.{statement}
+use Rattle.opening.proofs.states_marked.Tie as tie
 
 abbrev Inv-loop : tie.InvT-loop
 Inv-loop marks v set₀ q₀ set q = (q ≤ length marks) × Exactly q (hasMark marks v) set

@@ -1,0 +1,94 @@
+-- What opening hands out of a body, and what a call answers by it.
+use mathlib.Core.Path.{_≡_, sym, ap, _∙_, subst}
+use mathlib.Core.List.{List, [], _++_}
+use Prim.Native.Nat.{ℕ, _≤_}
+use native.Mathlib.Omega.{arith}
+use lib.ListN.{length, take, length-take}
+use lib.Seq.{take-at}
+use Rattle.theory.specs.Answer.{Question, Answer, answered, asks, written}
+use Rattle.theory.specs.Monitor.{Monitor}
+use Rattle.basics.specs.Refusals.{refusal}
+use Rattle.basics.specs.declared.Refusal.{Refusal}
+use Rattle.monitor.specs.Format.{statesOf, symbolsOf, startOf, drawnMarks, settledMarks, marks, nexts, tableOf, monitorOf, Rows, Table}
+use Rattle.monitor.specs.Questions.{tableQuestions, judgeAnswer, judgement}
+use Rattle.monitor.specs.declared.Shape.{Shape}
+use Rattle.monitor.specs.declared.Judgement.{Judgement}
+use Rattle.monitor.specs.declared.Judgement.the-variants.{Accepted, Refused}
+use Rattle.monitor.proofs.Body.{marks-length}
+use Rattle.monitor.proofs.Accepted.{accepted-head, accepted-table, accepted-asks}
+use Rattle.opening.specs.Opens.{Accepts, Opens}
+use Rattle.opening.specs.declared.Opened.{Opened}
+use Rattle.opening.specs.declared.Opened.the-variants as opened
+
+-- ---- opening: r is what judging answers, vs and ts are the marks drawn and the next states lent
+
+module _ (limit : ℕ) (b : List ℕ) {r : Judgement} (e : judgement r ≡ judgeAnswer limit b) where
+  pub opened-refused : {x : Refusal} → r ≡ Refused x → judgeAnswer limit b ≡ refusal x
+  opened-refused h = sym e ∙ ap judgement h
+
+  module _ (h : r ≡ Accepted) {n k : ℕ} (en : n ≡ statesOf b) (ek : k ≡ symbolsOf b) {vs ts : List ℕ} (ev : vs ≡ drawnMarks b) (et : ts ≡ nexts b) where
+    accepted : judgeAnswer limit b ≡ answered []
+    accepted = sym e ∙ ap judgement h
+
+    -- what settling requires of them and of the area
+    pub settling : (area : List ℕ) → length area ≡ limit → Rows limit n k ts × (length vs ≡ n) × (n ≤ length area)
+    settling area size =
+        let rows = accepted-table limit b accepted .rows in
+        (rw (en, ek, et) rows, rw (ev, en) (marks-length (accepted-head limit b accepted)), rw (en, size) (rows .states-most))
+
+    pub opened-table : {s : ℕ} {space : List ℕ} (rest : List ℕ) → s ≡ startOf b → space ≡ settledMarks n k vs ts ++ rest
+        → Accepts limit b (record { states = n; symbols = k; start = s }) space
+    opened-table {space = space} rest es settled =
+        let table = accepted-table limit b accepted in
+        let same : settledMarks n k vs ts ≡ marks b = rw (en, ek, ev, et) in
+        let marks-are : take n space ≡ marks b =
+        ap (take n) (settled ∙ ap (λ (l : List ℕ). l ++ rest) same) ∙ take-at (marks b) rest n (table .marks-length ∙ sym en) in
+        record {
+          accepted = accepted;
+          table = rw (marks-are, en, ek, es) table;
+          monitor = rw (marks-are, en, ek, es);
+        }
+
+-- ---- what a call answers after opening: the refusal, or its own questions of the table handed out
+
+module _ (limit : ℕ) (b space : List ℕ) {r : Opened} (o : Opens limit b r space) where
+  pub opened-no : {x : Refusal} → r ≡ opened.Refused x → judgeAnswer limit b ≡ refusal x
+  opened-no e = subst (λ (z : Opened). Opens limit b z space) e o
+
+  pub opened-yes : {t : Shape} → r ≡ opened.Table t → Accepts limit b t space
+  opened-yes e = subst (λ (z : Opened). Opens limit b z space) e o
+
+-- ---- t, space and ts are the shape, the array of the marks and the next states handed out
+
+module _ {limit : ℕ} {b : List ℕ} {t : Shape} {space : List ℕ} (h : Accepts limit b t space) where
+  pub marks-counted : t .states ≡ length (take (t .states) space)
+  marks-counted = sym (h .table .marks-length)
+
+  pub marks-lie : t .states ≤ length space
+  marks-lie = omega (arith, marks-counted, length-take (t .states) space)
+
+  module _ {ts : List ℕ} (et : ts ≡ nexts b) where
+    pub table-handed : Table limit (t .states) (t .symbols) (t .start) (take (t .states) space) ts
+    table-handed = rw et (h .table)
+
+    abbrev pub handed : Monitor
+    handed = tableOf (t .states) (t .symbols) (t .start) (take (t .states) space) ts
+
+    pub monitor-handed : handed ≡ monitorOf b
+    monitor-handed = rw et (h .monitor)
+
+    -- a call by its questions and its values
+    module _ {A : Type 0} (questions : Monitor → List Question) (figures : Monitor → A) where
+      pub opened-asks : asks (questions handed) (figures handed) ≡ asks (tableQuestions limit b ++ questions (monitorOf b)) (figures (monitorOf b))
+      opened-asks =
+          ap (λ (m : Monitor). asks (questions m) (figures m)) monitor-handed
+          ∙ sym (accepted-asks limit b (questions (monitorOf b)) (figures (monitorOf b)) (h .accepted))
+
+      -- and by the bytes that it writes
+      pub opened-writes : (bytes : Monitor → List ℕ) (area : List ℕ) {answer : Answer A} {after : List ℕ}
+          → answer ≡ asks (questions handed) (figures handed) → after ≡ written answer (bytes handed) area
+          → (answer ≡ asks (tableQuestions limit b ++ questions (monitorOf b)) (figures (monitorOf b)))
+          × (after ≡ written (asks (tableQuestions limit b ++ questions (monitorOf b)) (figures (monitorOf b))) (bytes (monitorOf b)) area)
+      opened-writes bytes area {answer} ea eb =
+          let same = ea ∙ opened-asks in
+          (same, eb ∙ ap (λ (m : Monitor). written answer (bytes m) area) monitor-handed ∙ ap (λ (a : Answer A). written a (bytes (monitorOf b)) area) same)
