@@ -2,8 +2,8 @@
 use Prim.Native.Nat.{_-_}
 use Rattle.theory.specs.Faults.{kinds}
 use borrow.Author.Needs.{needs}
-use Rattle.card.proofs.faults_by.Statement.{statement}
-use Rattle.card.proofs.faults_by.Tie as tie
+use Rattle.showing.proofs.faults_by.Statement.{statement}
+use Rattle.showing.proofs.faults_by.Tie as tie
 
 abbrev Inv-loop : tie.InvT-loop
 Inv-loop body domain after₀ rank₀ after rank = Unit {0}
