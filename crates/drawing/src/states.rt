@@ -3,52 +3,64 @@
 use crate::runs;
 use output::Output;
 ghost use Prim.Native.Nat.{_≤_, _<_};
+ghost use lib.ListN.{length};
 
 // The columns of a line that states take.
 const COLUMNS: usize = 56;
 
-// The output, and the columns of the line that are in use.
+// The output, the columns of the line that are in use, and whether a full line is ended.
 struct Row {
     out: Output,
     used: usize,
+    wraps: bool,
 }
 
-// Makes room for so many columns behind those in use: a full line is ended.
+// Makes room for so many columns behind those in use, in a row that wraps.
 fn make_room(row: Row, columns: usize) -> Row
     requires { ⌜ (row .used < 100)
         × (columns < 100) ⌝ }
     ensures { λ r. ⌜ r .used < 100 ⌝ }
 {
+    if !row.wraps {
+        return row;
+    }
     let out = row.out;
     let used = row.used + columns;
     if used > COLUMNS {
         return Row {
             out: out.text(b"\n                        "),
             used: columns,
+            wraps: true,
         };
     }
-    Row { out, used }
-}
-
-// The states from the first to the last, which are different.
-fn several(row: Row, first: usize, last: usize) -> Row
-    requires { ⌜ (row .used < 100)
-        × (first ≤ last) ⌝ }
-    ensures { λ r. ⌜ r .used < 100 ⌝ }
-{
-    let roomy = make_room(row, 7);
-    let used = roomy.used;
-    let begun = roomy.out.text(b" ").number(first);
-    if last - first == 1 {
-        let out = begun.text(b" ").number(last);
-        return Row { out, used };
+    Row {
+        out,
+        used,
+        wraps: true,
     }
-    let out = begun.text(b"..").number(last);
-    Row { out, used }
 }
 
-// The states from the first to the last, if their class is asked for.
-fn states(row: Row, asked: bool, first: usize, last: usize) -> Row
+// The columns that the states from the first to the last take at most.
+fn run_width(first: usize, last: usize) -> usize
+    ensures { λ r. ⌜ r < 100 ⌝ }
+{
+    if first < last { 7 } else { 3 }
+}
+
+// The states from the first to the last.
+fn run(out: Output, first: usize, last: usize) -> Output
+    requires { ⌜ first ≤ last ⌝ }
+{
+    let begun = out.text(b" ").number(first);
+    match last - first {
+        0 => begun,
+        1 => begun.text(b" ").number(last),
+        _ => begun.text(b"..").number(last),
+    }
+}
+
+// The same in a row, if their class is asked for.
+fn row_run(row: Row, asked: bool, first: usize, last: usize) -> Row
     requires { ⌜ (row .used < 100)
         × (first ≤ last) ⌝ }
     ensures { λ r. ⌜ r .used < 100 ⌝ }
@@ -56,18 +68,16 @@ fn states(row: Row, asked: bool, first: usize, last: usize) -> Row
     if !asked {
         return row;
     }
-    if first < last {
-        return several(row, first, last);
-    }
-    let roomy = make_room(row, 3);
+    let roomy = make_room(row, run_width(first, last));
     Row {
-        out: roomy.out.text(b" ").number(first),
+        out: run(roomy.out, first, last),
         used: roomy.used,
+        wraps: roomy.wraps,
     }
 }
 
 // The first state of the class from a state on; the number of states where there is none.
-fn next_state(classes: &[u8], class: u8, from: usize) -> usize {
+pub fn next_state(classes: &[u8], class: u8, from: usize) -> usize {
     let mut q = from;
     while q < classes.len() {
         if classes[q] == class {
@@ -78,15 +88,30 @@ fn next_state(classes: &[u8], class: u8, from: usize) -> usize {
     classes.len()
 }
 
-fn class_states(out: Output, classes: &[u8], class: u8) -> Output {
-    let mut row = Row { out, used: 0 };
+// The states of the class, run by run.
+fn class_runs(out: Output, classes: &[u8], class: u8, wraps: bool) -> Output {
+    let mut row = Row {
+        out,
+        used: 0,
+        wraps,
+    };
     let mut q = 0;
     while q < classes.len() {
         let last = runs::last_alike(classes, q);
-        row = states(row, classes[q] == class, q, last);
+        row = row_run(row, classes[q] == class, q, last);
         q = last + 1;
     }
     row.out
+}
+
+// The states of the class behind the word for one or for several. The first of them is given.
+pub fn class_states(out: Output, classes: &[u8], class: u8, first: usize, wraps: bool) -> Output
+    requires { ⌜ first < length (now classes) ⌝ }
+{
+    if next_state(classes, class, first + 1) < classes.len() {
+        return class_runs(out.text(b"states"), classes, class, wraps);
+    }
+    class_runs(out.text(b"state"), classes, class, wraps)
 }
 
 // A line with the class and its states, if it has any.
@@ -96,10 +121,7 @@ fn class_line(out: Output, classes: &[u8], class: u8) -> Output {
         return out;
     }
     let named = printing::class_word(out.text(b"  "), class as usize, 16);
-    if next_state(classes, class, first + 1) < classes.len() {
-        return class_states(named.text(b"states"), classes, class).text(b"\n");
-    }
-    class_states(named.text(b"state"), classes, class).text(b"\n")
+    class_states(named, classes, class, first, true).text(b"\n")
 }
 
 pub fn class_lines(out: Output, classes: &[u8]) -> Output {

@@ -89,9 +89,12 @@ pub fn card(out: Output, rule: usize, body: &[u8]) -> Output {
         } => {
             let judged = words::monitorability(headed, monitorability).text(b"\n");
             let sized = sizes(judged, body, reached);
-            let classes = basics::part(&area, 0, basics::byte_at(body, 0));
+            let states = basics::byte_at(body, 0);
+            let marks = basics::part(body, 3, states);
+            let classes = basics::part(&area, 0, states);
             let classed = drawing::states::class_lines(sized, classes);
-            let marked = faults_by(classed.text(b"by marks\n"), body, 3);
+            let settled = drawing::settled::line(classed, marks, classes);
+            let marked = faults_by(settled.text(b"by marks\n"), body, 3);
             faults_by(marked.text(b"by classes\n"), body, 6)
         }
     }

@@ -1,0 +1,54 @@
+// The states that are drawn not yet and settled all the same: their class is that of a verdict, good or bad.
+use crate::states;
+use output::Output;
+use theory::STATE_LIMIT;
+
+// The verdict that is settled at a state of this mark and class: 1 true, 2 false, 0 none.
+fn verdict(mark: usize, class: u8) -> u8 {
+    if mark != 0 {
+        return 0;
+    }
+    match class {
+        0 => 1,
+        1 => 2,
+        _ => 0,
+    }
+}
+
+// Writes the verdict of each state.
+fn settle(marks: &[u8], classes: &[u8], verdicts: &mut [u8]) {
+    let n = basics::least_of(classes.len(), verdicts.len());
+    let mut q = 0;
+    while q < n {
+        verdicts[q] = verdict(basics::byte_at(marks, q), classes[q]);
+        q += 1;
+    }
+}
+
+// The states of a verdict behind these words, if it has any.
+fn verdict_states(out: Output, words: &[u8], verdicts: &[u8], verdict: u8) -> Output {
+    let first = states::next_state(verdicts, verdict, 0);
+    if first >= verdicts.len() {
+        return out;
+    }
+    states::class_states(out.text(words), verdicts, verdict, first, false)
+}
+
+fn has_state(verdicts: &[u8], verdict: u8) -> bool {
+    states::next_state(verdicts, verdict, 0) < verdicts.len()
+}
+
+// The line of a table's settled states, if it has any: those of true, then those of false.
+pub fn line(out: Output, marks: &[u8], classes: &[u8]) -> Output {
+    let mut area = [0u8; STATE_LIMIT];
+    settle(marks, classes, &mut area);
+    let verdicts = basics::part(&area, 0, classes.len());
+    if has_state(verdicts, 1) {
+        let begun = verdict_states(out, b"  settled true: ", verdicts, 1);
+        return verdict_states(begun, b"; settled false: ", verdicts, 2).text(b"\n");
+    }
+    if has_state(verdicts, 2) {
+        return verdict_states(out, b"  settled false: ", verdicts, 2).text(b"\n");
+    }
+    out
+}
