@@ -79,14 +79,29 @@ RULES[26] = table("spare main", {
     "spare-sure": (FALSE, "spare-sure"),
 })
 
-# Table H. Any message at all. Loss alone does harm, and only where it leaves the empty trace. No rule is harmed but not by loss: losses lead from
-# every trace to the empty one, so with no harm by loss all traces read alike.
+# Table H. Any message at all. The only message makes it true, so true is settled at the start: nothing can be told apart, and the rule is immune
+# to every fault.
 RULES[31] = table("message", {
     "dead": (NOT_YET, "alive"),
     "alive": (TRUE, "alive"),
 })
 
-# Three messages of any kind. Only their number counts: loss and repeat do harm, corruption and swap do none.
+# A countdown. While idle it can be held, started or aborted; once started nothing can stop it. So three, two and one are drawn not yet and count as
+# true already, and closing counts as false.
+RULES[35] = table("hold go abort", {
+    "idle": (NOT_YET, "idle three closing"),
+    "three": (NOT_YET, "two"),
+    "two": (NOT_YET, "one"),
+    "one": (NOT_YET, "zero"),
+    "zero": (TRUE, "zero"),
+    "closing": (NOT_YET, "closed"),
+    "closed": (FALSE, "closed"),
+})
+
+# Three messages of any kind. What they are does not count, so true is settled from the start: the rule is immune, although it is drawn not yet for
+# three messages. A rule that no corruption harms depends on the number of messages alone, so a verdict that it can find is settled at the start and
+# no other fault harms it: every rule that is harmed at all is harmed by corruption. It is harmed by loss as well, since losses lead from every trace
+# to the empty one.
 RULES[40] = table("low high", {
     "none": (NOT_YET, "one"),
     "one": (NOT_YET, "two"),
