@@ -1,19 +1,18 @@
 -- Classes, monitorability and the number of states reached, read off sets of states, are those of the table.
-use mathlib.Core.Path.{_≡_, refl, sym, ap, ap₂, subst, _∙_}
-use mathlib.Core.Bool.{Bool, true, false, cond, not, _&&_, _||_, and-false, and-assoc}
+use mathlib.Core.Path.{_≡_, refl, sym, ap, ap₂, _∙_}
+use mathlib.Core.Bool.{Bool, true, false, cond, not, _&&_, and-false, and-assoc}
 use mathlib.Core.List.{List, [], _∷_}
-use mathlib.Core.Logic.{⊎-elim}
 use Prim.Native.Nat.{ℕ, zero, suc, _≤_, _<_}
 use native.Mathlib.Omega.{arith}
-use lib.Dec.{eqb, ltb}
+use lib.Dec.{eqb}
 use lib.ListN.{length}
-use borrow.Author.Tests.{eq-eqb, lt-ltb, le-ltb, ltb-true}
+use borrow.Author.Tests.{eq-eqb, lt-ltb, le-ltb}
 use Rattle.theory.specs.Below.{count}
-use Rattle.theory.specs.Automaton.{Automaton, Closed, leads, reachedFrom}
+use Rattle.theory.specs.Automaton.{leads, reachedFrom}
 use Rattle.theory.specs.Answer.{answered}
 use Rattle.theory.specs.Monitor.{Monitor, WellFormed, marked, classFrom, class, weak, reached, uglyReached, monitorability, statesReached, stateLimit}
-use Rattle.theory.proofs.Below.{both-ways, or-cases, or-right, and-left, and-right, and-both, any-same, any-short, count-same, count-short, count-any}
-use Rattle.theory.proofs.Reach.{hits-here, leads-complete, leads-same}
+use Rattle.theory.proofs.Below.{any-same, any-short, count-same, count-short, count-any}
+use Rattle.theory.proofs.Reach.{hits-here, leads-complete}
 use Rattle.theory.proofs.Values.{filled, filled-same}
 use Rattle.state_set.specs.declared.StateSet.{StateSet}
 use Rattle.state_set.specs.Member.{member, Exactly}

@@ -1,16 +1,14 @@
 -- Settled marks, proved of every accepted table.
 use mathlib.Core.Path.{_≡_, sym, _∙_}
 use mathlib.Core.List.{List, []}
-use mathlib.Core.Logic.{_↔_}
-use Prim.Native.Nat.{ℕ, _<_}
+use Prim.Native.Nat.{ℕ}
 use lib.ListN.{getD}
 use Rattle.theory.specs.Answer.{answered}
-use Rattle.theory.specs.Monitor.{Monitor, WellFormed}
-use Rattle.theory.specs.Settled.{CountsAs, settledMark}
+use Rattle.theory.specs.Settled.{settledMark}
 use Rattle.theory.proofs.Values.{values-same}
 use Rattle.theory.proofs.Settled.{settles-sure, sure-one, settles-early, drawn-stays, counts-exact}
 use Rattle.theory.proofs.Settled.{settled-twice, class-settled, monitorability-settled, reached-settled}
-use Rattle.monitor.specs.Format.{statesOf, settledMarks, marks, drawnOf, monitorOf}
+use Rattle.monitor.specs.Format.{statesOf, settledMarks, marks, drawnOf}
 use Rattle.monitor.specs.Questions.{judgeAnswer}
 use Rattle.monitor.proofs.Accepted.{mark-at, accepted-drawn, accepted-table}
 use Rattle.demands.specs.SettledMarks.{SettledMarks}

@@ -16,7 +16,7 @@ fn verdict(mark: usize, class: u8) -> u8 {
 }
 
 // Writes the verdict of each state.
-fn settle(marks: &[u8], classes: &[u8], verdicts: &mut [u8]) {
+fn write_verdicts(marks: &[u8], classes: &[u8], verdicts: &mut [u8]) {
     let n = basics::least_of(classes.len(), verdicts.len());
     let mut q = 0;
     while q < n {
@@ -41,7 +41,7 @@ fn has_state(verdicts: &[u8], verdict: u8) -> bool {
 // The line of a table's settled states, if it has any: those of true, then those of false.
 pub fn line(out: Output, marks: &[u8], classes: &[u8]) -> Output {
     let mut area = [0u8; STATE_LIMIT];
-    settle(marks, classes, &mut area);
+    write_verdicts(marks, classes, &mut area);
     let verdicts = basics::part(&area, 0, classes.len());
     if has_state(verdicts, 1) {
         let begun = verdict_states(out, b"  settled true: ", verdicts, 1);

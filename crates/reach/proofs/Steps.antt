@@ -30,7 +30,9 @@ abbrev pub decides : Bool → Automaton → (ℕ → Bool) → ℕ → ℕ → B
 decides all g f q a = not (Bool·beq (f (g .next q a)) all)
 
 enters-by : (all : Bool) (g : Automaton) (f : ℕ → Bool) (q : ℕ) → into all g f q ≡ cond (any (g .symbols) (decides all g f q)) (not all) all
-enters-by true g f q = rw (any-same (g .symbols) (decides true g f q) (λ a. not (f (g .next q a))) (λ a l. fails (f (g .next q a)))) (turn (any (g .symbols) (λ a. not (f (g .next q a)))))
+enters-by true g f q =
+    rw (any-same (g .symbols) (decides true g f q) (λ a. not (f (g .next q a))) (λ a l. fails (f (g .next q a))))
+    (turn (any (g .symbols) (λ a. not (f (g .next q a)))))
   where
     fails : (b : Bool) → not (Bool·beq b true) ≡ not b
     fails true = refl
@@ -39,7 +41,8 @@ enters-by true g f q = rw (any-same (g .symbols) (decides true g f q) (λ a. not
     turn : (b : Bool) → not b ≡ cond b false true
     turn true = refl
     turn false = refl
-enters-by false g f q = rw (any-same (g .symbols) (decides false g f q) (leadsInto g f q) (λ a l. passes (f (g .next q a)))) (same (any (g .symbols) (leadsInto g f q)))
+enters-by false g f q =
+    rw (any-same (g .symbols) (decides false g f q) (leadsInto g f q) (λ a l. passes (f (g .next q a)))) (same (any (g .symbols) (leadsInto g f q)))
   where
     passes : (b : Bool) → not (Bool·beq b false) ≡ b
     passes true = refl

@@ -1,4 +1,4 @@
-// Which states can be reached from a state, from which states a set can be reached, and from which nothing can avoid it.
+// Which states can be reached from a state, from which a set can be reached, and from which nothing avoids it.
 use state_set::StateSet;
 ghost use mathlib.Core.Path.{_≡_};
 ghost use mathlib.Core.Bool.{_&&_, _||_};

@@ -89,11 +89,9 @@ pub fn card(out: Output, rule: usize, body: &[u8]) -> Output {
         } => {
             let judged = words::monitorability(headed, monitorability).text(b"\n");
             let sized = sizes(judged, body, reached);
-            let states = basics::byte_at(body, 0);
-            let marks = basics::part(body, 3, states);
-            let classes = basics::part(&area, 0, states);
+            let classes = basics::part(&area, 0, basics::byte_at(body, 0));
             let classed = drawing::states::class_lines(sized, classes);
-            let settled = drawing::settled::line(classed, marks, classes);
+            let settled = drawing::settled::line(classed, monitor::drawn_marks(body), classes);
             let marked = faults_by(settled.text(b"by marks\n"), body, 3);
             faults_by(marked.text(b"by classes\n"), body, 6)
         }

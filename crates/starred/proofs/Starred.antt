@@ -109,7 +109,9 @@ hold-by end = tt
 hold-by (_also_ {f} {fs} c cs) = (holds-by f c, hold-by cs)
 
 pub starred-hold : Hold starred
-unfolding flatMap judgeAnswer first any values find each within leads boundWithin bound run settledMark settledMarks class monitorability reading told steps words series
+unfolding flatMap judgeAnswer first any values find each within leads boundWithin bound run settledMark settledMarks
+
+unfolding class monitorability reading told steps words series
 starred-hold =
     hold-by {fs = starred}
     ((refl, refl) also (refl, refl) also (refl, refl) also (refl, refl)

@@ -1,4 +1,5 @@
--- The starred facts of 01, with that on H as 02 has it, as a list, and what each one says in terms of the published definitions.
+-- The starred facts of 01 as a list, that on H as 02 has it, and what each one says in terms of the published
+-- definitions.
 use mathlib.Core.Path.{_≡_}
 use mathlib.Core.List.{List, [], _∷_}
 use Prim.Native.Nat.{ℕ}

@@ -7,7 +7,7 @@ use Prim.Native.Nat.{ℕ, zero, suc, _+_, _≤_, _<_}
 use native.Mathlib.Nat.{add-zero, add-suc, add-comm}
 use native.Mathlib.Omega.{arith}
 use lib.ListN.{length}
-use Rattle.theory.specs.Below.{any, every, count}
+use Rattle.theory.specs.Below.{every, count}
 use Rattle.theory.specs.Automaton.{Automaton, Closed, Trace, run, boundWithin, bound}
 use Rattle.theory.proofs.Below.{or-cases, or-left, or-right, every-at, every-all, every-same}
 use Rattle.theory.proofs.Rounds.{stopped, stopped-at}

@@ -11,7 +11,7 @@ use lib.ListN.{getD}
 use Rattle.theory.specs.Below.{any, count}
 use Rattle.theory.specs.Automaton.{Automaton, Closed, Reaches, leads, reachedFrom}
 
--- an automaton with a start and a verdict (01's mark) at each state: 0 not yet, 1 true, 2 false
+-- an automaton with a start and a verdict at each state: 0 not yet, 1 true, 2 false; of a table it is the settled mark
 pub record Monitor : Type 0 where
   pub automaton : Automaton
   pub start : ℕ
@@ -94,6 +94,6 @@ monitorability m = cond (any (m .automaton .states) (uglyReached m)) 3 (weak (cl
 unfoldable pub statesReached : Monitor → ℕ
 statesReached m = count (m .automaton .states) (reached m)
 
--- what state q reads: its mark under reading 3, its class under reading 6
+-- what state q reads: its verdict under reading 3, its class under reading 6
 unfoldable pub reading : Monitor → ℕ → ℕ → ℕ
 reading m d q = cond (eqb d 3) (m .verdict q) (class m q)

@@ -33,7 +33,8 @@ returns : tie.Need-returns Inv-loop μ-loop
 returns c =
     let a = c .before .before .before .args in
     let at = c .before .loop in
-    λ p. at .inv .1 p ∙ ap (λ (i : ℕ). spread (a .all) (automatonOf (a .n) (a .k) (a .nexts .now)) (member (a .set)) i p) (le-antisymm (at .inv .0) (c .loop-test .left))
+    λ p. at .inv .1 p
+    ∙ ap (λ (i : ℕ). spread (a .all) (automatonOf (a .n) (a .k) (a .nexts .now)) (member (a .set)) i p) (le-antisymm (at .inv .0) (c .loop-test .left))
 
 pub widen-all-spec : {M : Type 1} → statement M
 widen-all-spec =
