@@ -4,6 +4,7 @@ The model shares nothing with the library but the byte format. Run the tests tha
 `rt check probe`, at the root.
 """
 import collections
+import functools
 import itertools
 import subprocess
 import sys
@@ -74,24 +75,6 @@ def reach(b, q):
     return seen
 
 
-def state_class(b, q):
-    mark = b[3 + q]
-    if mark:
-        return mark - 1
-    found = {b[3 + p] for p in reach(b, q)}
-    return {(True, False): 2, (False, True): 3, (True, True): 4, (False, False): 5}[1 in found, 2 in found]
-
-
-def monitorability(b):
-    reached = reach(b, b[2])
-    weak = 3 if any(state_class(b, q) == 5 for q in reached) else [0, 1, 0, 1, 2, 3][state_class(b, b[2])]
-    return MONITORABILITY[weak]
-
-
-def reading(b, d, q):
-    return b[3 + q] if d == 3 else state_class(b, q)
-
-
 def run(b, q, w):
     """The state that a trace leads to from q."""
     for a in w:
@@ -99,23 +82,79 @@ def run(b, q, w):
     return q
 
 
-def count(b, w):
+# ---- marks
+# A function of a body gives the mark of each state. Where an answer goes by marks, it goes by the settled ones unless
+# another such function is given.
+
+
+def of_body(find):
+    """A function of a body that keeps what it found of the last few."""
+    kept = functools.lru_cache(256)(find)
+    return lambda b: kept(bytes(b))
+
+
+def drawn(b):
+    return tuple(b[3 : 3 + b[0]])
+
+
+@of_body
+def settled(b):
+    """A state that is not yet takes the verdict that all its next states have, until no state does any more."""
+    marks, changed = list(drawn(b)), True
+    while changed:
+        changed = False
+        for q in range(b[0]):
+            ahead = {marks[p] for p in successors(b, q)}
+            if not marks[q] and len(ahead) == 1 and ahead != {0}:
+                marks[q], changed = ahead.pop(), True
+    return tuple(marks)
+
+
+def with_marks(b, marks):
+    """The body with these marks in place of its own."""
+    return [*b[:3], *marks, *b[3 + b[0] :]]
+
+
+def state_class(b, q, marks=settled):
+    of_state = marks(b)
+    if of_state[q]:
+        return of_state[q] - 1
+    found = {of_state[p] for p in reach(b, q)}
+    return {(True, False): 2, (False, True): 3, (True, True): 4, (False, False): 5}[1 in found, 2 in found]
+
+
+def monitorability(b, marks=settled):
+    reached = reach(b, b[2])
+    ugly = any(state_class(b, q, marks) == 5 for q in reached)
+    return MONITORABILITY[3 if ugly else [0, 1, 0, 1, 2, 3][state_class(b, b[2], marks)]]
+
+
+def reading(b, d, q, marks=settled):
+    return marks(b)[q] if d == 3 else state_class(b, q, marks)
+
+
+def count(b, w, marks=settled):
     """After how many messages of the trace the mark is first true or false: a number, or the word never."""
-    q, read = b[2], 0
+    q, read, of_state = b[2], 0, marks(b)
     for a in w:
-        if b[3 + q]:
+        if of_state[q]:
             break
         q, read = successors(b, q)[a], read + 1
-    return str(read) if b[3 + q] else "never"
+    return str(read) if of_state[q] else "never"
+
+
+# ---- all small tables
+
+
+def all_tables(n, k):
+    """Every accepted table with n states and k messages."""
+    every = ([n, k, *rest] for rest in itertools.product(range(n), *[range(3)] * n, *[range(n)] * (n * k)))
+    return [b for b in every if judge(b) is None]
 
 
 def small_tables():
     """Every accepted table with at most 2 states and 2 messages."""
-    small = []
-    for n, k in itertools.product((1, 2), (1, 2)):
-        for rest in itertools.product(range(n), *[range(3)] * n, *[range(n)] * (n * k)):
-            if judge([n, k, *rest]) is None:
-                small.append([n, k, *rest])
+    small = [b for n, k in itertools.product((1, 2), (1, 2)) for b in all_tables(n, k)]
     assert len(small) == 182, len(small)
     return small
 
@@ -237,7 +276,7 @@ def fault_refusal(b, faults, d, verdict=0):
     return no or (None if verdict < d else (19, 0))
 
 
-def finding(b, d, w, room, words):
+def finding(b, d, w, room, words, marks=settled):
     """A witness or none, and then the whole area, in which every byte is 255 before."""
     area = [255] * room
     if w is None:
@@ -249,39 +288,55 @@ def finding(b, d, w, room, words):
     area[:distance] = sent
     before = next(i for i, step in enumerate(steps) if step[0] == 0)
     _, kind, _, replacement = steps[before]
-    readings = " ".join(str(reading(b, d, run(b, b[2], trace))) for trace in (sent, received))
+    readings = " ".join(str(reading(b, d, run(b, b[2], trace), marks)) for trace in (sent, received))
     figures = f"distance {distance} before {before} kind {kind} replacement {replacement} readings {readings}"
-    return f"{words[1]} {figures} counts {count(b, sent)} {count(b, received)}" + listed(area)
+    return f"{words[1]} {figures} counts {count(b, sent, marks)} {count(b, received, marks)}" + listed(area)
 
 
-def ask_trust(b, faults, d, verdict, room, w=None):
+def card(b, first, marks=settled):
+    """The listing's line without the rule number, from the first witness of each kind under reading 3."""
+    distances = [str(first[kind][0]) if kind in first else "-" for kind in KINDS]
+    return " ".join([str(b[0]), monitorability(b, marks), *distances])
+
+
+def ask_trust(b, faults, d, verdict, room, w=None, marks=settled):
     """The question whether a verdict can be trusted, with its answer: that of the witness, if it is not refused."""
     no = fault_refusal(b, faults, d, verdict)
-    answer = refusal(no) + listed([255] * room) if no else finding(b, d, w, room, TRUST)
+    answer = refusal(no) + listed([255] * room) if no else finding(b, d, w, room, TRUST, marks)
     return [7, faults, d, verdict, *divmod(room, 256)[::-1], *b], answer
 
 
 # ---- the comparison
 
 
-def compare_batch(batch):
-    frames = b"".join(len(f).to_bytes(2, "little") + bytes(f) for f, _ in batch)
-    out = subprocess.run([PROBE], input=frames, stdout=subprocess.PIPE, check=True).stdout.decode().split("\n")
-    assert out.pop() == "" and len(out) == len(batch), "a line for each question"
-    for (frame, expected), got in zip(batch, out):
-        if got != expected:
-            sys.exit(f"question (call, three numbers, bytes) {bytes(frame).hex(' ')}\n  expected {expected}\n  got      {got}")
+def answers(frames):
+    """What the program answers to each frame: together they have at most as many bytes as it takes."""
+    framed = b"".join(len(frame).to_bytes(2, "little") + bytes(frame) for frame in frames)
+    out = subprocess.run([PROBE], input=framed, stdout=subprocess.PIPE, check=True).stdout.decode().split("\n")
+    assert out.pop() == "" and len(out) == len(frames), "a line for each question"
+    return out
+
+
+def batches(questions):
+    """The questions, whose first part is a frame, in lists of which the program takes the frames at once."""
+    batch, size = [], 0
+    for question in questions:
+        if size + len(question[0]) + 2 > BATCH:
+            yield batch
+            batch, size = [], 0
+        batch.append(question)
+        size += len(question[0]) + 2
+    yield batch
 
 
 def compare(questions):
-    """Asks the program each question, a frame with the answer expected. Returns how many they were, or ends at the first difference."""
-    batch, size, total = [], 0, 0
-    for q in questions:
-        if size + len(q[0]) + 2 > BATCH:
-            compare_batch(batch)
-            batch, size = [], 0
-        batch.append(q)
-        size += len(q[0]) + 2
-        total += 1
-    compare_batch(batch)
+    """Asks the program each question, a frame with the answer expected. Returns how many they were, or ends at the
+    first difference."""
+    total = 0
+    for batch in batches(questions):
+        for (frame, expected), got in zip(batch, answers([frame for frame, _ in batch])):
+            if got != expected:
+                sys.exit(f"question (call, three numbers, bytes) {bytes(frame).hex(' ')}\n"
+                         f"  expected {expected}\n  got      {got}")
+        total += len(batch)
     return total

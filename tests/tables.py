@@ -14,6 +14,8 @@ LOWER_TRACE_SWAPPED = bytes([3, 2, 0, 0, 0, 1, 1, 0, 2, 0, 2, 2])       # the sa
 UNREACHABLE_HARM = bytes([3, 2, 0, 1, 0, 2, 0, 0, 1, 2, 2, 2])
 UGLY_FURTHER_ON = bytes([3, 2, 0, 0, 1, 0, 1, 2, 1, 1, 2, 2])
 UGLY_UNREACHABLE = bytes([2, 1, 0, 1, 0, 0, 1])
+HARMED_EARLIER = bytes([3, 2, 0, 0, 0, 1, 0, 1, 2, 2, 2, 2])            # by settled marks than by drawn ones
+UNREACHED_SETTLES = bytes([2, 1, 1, 0, 1, 1, 1])
 NAMED = [A, B, C, D, E, G, H, THREE_IN_A_ROW, LOWER_TRACE_HARMED, LOWER_TRACE_SWAPPED, UNREACHABLE_HARM,
          UGLY_FURTHER_ON, UGLY_UNREACHABLE]
 
@@ -131,6 +133,65 @@ def far_table(rng, n, k):
     for _ in range(rng.choice([0, 0, 1, 2, 5])):
         rows[rng.randrange(n - 1)][rng.randrange(k)] = rng.randrange(n - 1)
     return renamed(rng, start, marks, rows)
+
+
+# ---- valid tables whose states settle ----------------------------------------------------------------------
+
+def settling(n, k, mark, rising, stays=None):
+    """States that settle one after the other, in rising or in falling number: the first has the mark, and each other
+    leads to the one before it by every message. The start is the last. One of them, counted in this order, may stay
+    by its last message; then it does not settle, and none behind it does."""
+    order = list(range(n) if rising else reversed(range(n)))
+    marks, rows = [0] * n, [[order[0]] * k for _ in range(n)]
+    marks[order[0]] = mark
+    for before, state in zip(order, order[1:]):
+        rows[state] = [before] * k
+    if stays is not None:
+        rows[order[stays]][-1] = order[stays]
+    return order[-1], marks, rows
+
+
+def settling_tables():
+    """Each such row of states: all of them reached, none but the marked one, and with half of them settled."""
+    for n, k in ((2, 1), (3, 2), (4, 2), (64, 1), (64, 16)):
+        for mark, rising in ((1, False), (1, True), (2, False), (2, True)):
+            start, marks, rows = settling(n, k, mark, rising)
+            yield table(start, marks, rows)
+            yield table(marks.index(mark), marks, rows)
+            yield table(*settling(n, k, mark, rising, n // 2))
+
+
+SETTLING = [
+    *settling_tables(),
+    HARMED_EARLIER,
+    UNREACHED_SETTLES,
+    bytes([3, 2, 0, 0, 0, 2, 0, 1, 2, 2, 2, 2]),                                # as HARMED_EARLIER, with false
+    bytes([6, 2, 5, 0, 0, 0, 1, 2, 0, 1, 2, 3, 3, 4, 4, 3, 3, 4, 4, 0, 0]),     # 0 leads to true and to false, 5 to 0
+    bytes([6, 2, 1, 0, 0, 0, 1, 2, 0, 1, 2, 3, 3, 4, 4, 3, 3, 4, 4, 0, 0]),     # the same from a start that settles
+    bytes([4, 2, 0, 0, 0, 0, 1, 1, 2, 2, 3, 3, 3, 3, 3]),                       # to true by ways of unequal length
+    bytes([3, 1, 0, 0, 1, 1, 1, 2, 1]),                                         # to a ring of true states
+    bytes([3, 2, 0, 0, 0, 1, 1, 2, 0, 2, 2, 2]),                                # a ring that can be left: not settled
+    bytes([4, 2, 0, 0, 0, 0, 2, 1, 3, 2, 3, 2, 3, 3, 3]),                       # to a state that stays: not settled
+    bytes([5, 2, 0, 0, 1, 0, 0, 2, 0, 1, 1, 1, 1, 1, 4, 4, 4, 4]),              # not reached: 2 settles true, 3 false
+]
+
+
+def settling_table(rng, n, k):
+    """A random table of which most states lead only to states made before them that have one verdict or settle at it.
+    Now and then a state leads anywhere besides."""
+    marks, rows, settles = [], [], []
+    for state in range(n):
+        verdict = rng.choice([1, 2])
+        alike = [s for s in range(state) if settles[s] == verdict][-rng.choice([1, 2, 64]):]
+        marked = not alike or rng.random() < 0.1
+        rows.append([rng.choice([state] if marked else alike) for _ in range(k)])
+        if not marked and rng.random() < 0.15:
+            rows[state][rng.randrange(k)] = rng.randrange(n)
+            settles.append(0)
+        else:
+            settles.append(verdict)
+        marks.append(verdict if marked else 0)
+    return renamed(rng, rng.choice([n - 1, rng.randrange(n)]), marks, rows)
 
 
 # ---- damaged tables --------------------------------------------------------------------------------------
