@@ -2,18 +2,37 @@
 """Compares the fault question, the card and which verdicts can be trusted, as the program `probe` answers them, with a
 search that tries every series of steps.
 
-The search is written from the specification alone and knows neither distances of pairs nor reachable states. For a
-fault question it goes up to sent length 2 * n - 1; a witness longer than that would show as a difference, since the
-program would not say immune. For a verdict n * n is enough: a shortest witness has at most n - 1 messages before the
-fault, two that the fault covers, and n * n - n - 1 behind it, since no pair of states comes twice there and none is a
-state beside itself. Where that would be too many series, the search ends earlier.
+The search is written from the specification alone and knows neither distances of pairs nor reachable states, and a
+state settles by its series of messages. For a fault question it goes up to sent length 2 * n - 1; a witness longer than
+that would show as a difference, since the program would not say immune. For a verdict n * n is enough: a shortest
+witness has at most n - 1 messages before the fault, two that the fault covers, and n * n - n - 1 behind it, since no
+pair of states comes twice there and none is a state beside itself. Where that would be too many series, the search
+ends earlier.
 """
 import functools
 import itertools
 import random
 
-from model import (FAULT, KINDS, READINGS, SAMPLES, TRUST, ask_trust, compare, differ, fault_steps, finding, first_of,
-                   judge, misread, monitorability, reading, received_by, sent_by, small_tables)
+from model import (FAULT, KINDS, READINGS, SAMPLES, TRUST, ask_trust, card, compare, differ, drawn, fault_steps,
+                   finding, first_of, judge, misread, of_body, reading, received_by, run, sent_by, settled,
+                   small_tables)
+from tables import SETTLING, settling_table
+
+# ---- settled marks
+
+
+def all_lead(b, q, length, verdict):
+    """Whether every series of this many messages leads from the state to one that is drawn with the verdict."""
+    return all(drawn(b)[run(b, q, w)] == verdict for w in itertools.product(range(b[1]), repeat=length))
+
+
+@of_body
+def marks_by_series(b):
+    """The settled mark of each state, by trying every series of each length up to n. Greater lengths settle no more:
+    since a verdict stays, a length settles all that the one before it does, and where it is no more, it never is."""
+    verdicts = lambda q: (v for length in range(b[0] + 1) for v in (1, 2) if all_lead(b, q, length, v))
+    return tuple(next(verdicts(q), 0) for q in range(b[0]))
+
 
 # ---- series of steps
 
@@ -51,7 +70,7 @@ def states_after(b, longest):
 
 def first_series(b, d, longest, test):
     """The first witness of each kind, a series whose sent and received readings pass the test, with its sent length."""
-    of_state, first = [reading(b, d, q) for q in range(b[0])], {}
+    of_state, first = [reading(b, d, q, marks_by_series) for q in range(b[0])], {}
     reads = [of_state[q] for q in states_after(b, longest + 1)]
     for length in range(1, longest + 1):
         for steps, kind, sent, received in series(b[1], length):
@@ -71,11 +90,6 @@ def horizon(b):
 # ---- the questions
 
 
-def card(b, first):
-    distances = [str(first[kind][0]) if kind in first else "-" for kind in KINDS]
-    return " ".join([str(b[0]), monitorability(b), *distances])
-
-
 def areas(w):
     """Longer than the sent trace, as long, one byte shorter, and empty."""
     room = w[0] if w else 1
@@ -88,9 +102,9 @@ def fault_questions(b):
         first = first_series(b, d, 2 * b[0] - 1, differ)
         for faults in range(16):
             w = first_of(first, faults)
-            yield from (([4, faults, d, room] + b, finding(b, d, w, room, FAULT)) for room in areas(w))
+            yield from (([4, faults, d, room] + b, finding(b, d, w, room, FAULT, marks_by_series)) for room in areas(w))
         if d == 3:
-            yield [5, 0, 0, 0] + b, card(b, first)
+            yield [5, 0, 0, 0] + b, card(b, first, marks_by_series)
 
 
 def check_immunity(b):
@@ -109,7 +123,7 @@ def trust_questions(b):
         for faults in range(16):
             w = first_of(first, faults)
             if w or horizon(b) == b[0] ** 2:
-                yield from (ask_trust(b, faults, d, verdict, room, w) for room in areas(w))
+                yield from (ask_trust(b, faults, d, verdict, room, w, marks_by_series) for room in areas(w))
 
 
 # ---- the tables
@@ -162,7 +176,9 @@ def main():
     r = random.Random(4)
     far = [list(bytes.fromhex(line)) for line in FAR.split()]
     tables = small_tables() + SAMPLES + far + [chain_table(r) for _ in range(100)]
-    assert all(judge(b) is None for b in tables)
+    settling = [b for b in SETTLING if 2 < b[0] < 7] + [settling_table(r, r.randint(3, 5), 2) for _ in range(9)]
+    tables += [list(b) for b in settling]
+    assert all(judge(b) is None and marks_by_series(b) == settled(b) for b in tables)
     asked = [question for b in tables for question in (*fault_questions(b), *trust_questions(b))]
     total = compare(asked)
     distance, farther = (max(int(answer.split()[2]) for _, answer in asked if answer.startswith(found + " "))

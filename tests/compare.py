@@ -1,15 +1,16 @@
 #!/usr/bin/env python3
 """Compares the answers of the program `probe` with a model: judging, classes, steps, traces, what the fault question
-refuses, the writer, and which verdicts can be trusted."""
+refuses, the writer, and which verdicts can be trusted; of tables whose states settle also the fault question and the
+card."""
 import itertools
 import random
 import struct
 
-from model import (READINGS, REPEAT, SAMPLES, ask_trust, compare, count, fault_refusal, first_of, first_witnesses,
-                   judge, listed, misread, monitorability, reach, reading, refusal, run, small_tables, state_class,
-                   successors)
+from model import (FAULT, KINDS, READINGS, REPEAT, SAMPLES, ask_trust, card, compare, count, differ, drawn,
+                   fault_refusal, finding, first_of, first_witnesses, judge, listed, misread, monitorability, reach,
+                   reading, refusal, run, settled, small_tables, state_class, successors)
 from rings import rings
-from tables import table
+from tables import SETTLING, settling_table, table
 
 # ---- the model's answers
 
@@ -185,7 +186,7 @@ def random_questions():
 def fallen_questions():
     """Traces whose verdict falls at the start, early, at the last message, one message later, and never; both readings."""
     r, kinds = random.Random(21), set()
-    tables = SAMPLES + [random_table(r) for _ in range(300)] + [b for b in small_tables() if b[3 + b[2]]]
+    tables = SAMPLES + [random_table(r) for _ in range(300)] + [b for b in small_tables() if settled(b)[b[2]]]
     for b in tables:
         k = b[1]
         w = [r.randrange(k) for _ in range(200)]
@@ -233,7 +234,7 @@ def written_questions():
 def undecided_table(r, states, messages):
     """A random table that has no verdict at its start and can come to one."""
     tables = (random_table(r, states, messages) for _ in itertools.count())
-    return next(b for b in tables if not b[3 + b[2]] and any(b[3 + q] for q in reach(b, b[2])))
+    return next(b for b in tables if not settled(b)[b[2]] and any(settled(b)[q] for q in reach(b, b[2])))
 
 
 def ask_trusted(b, faults, d, verdict, first):
@@ -256,6 +257,41 @@ def trust_questions():
         yield from ask_trusted(b, REPEAT, 3, 1, first_witnesses(b, 3, misread(1)))
 
 
+def ask_found(b, faults, d, first):
+    """A fault question, by the first witness of each kind; areas that just hold that of the set and just do not."""
+    w = first_of(first, faults)
+    rooms = {w[0], w[0] - 1} if w else (0, 3)
+    yield from (([4, faults, d, room] + b, finding(b, d, w, room, FAULT)) for room in rooms)
+
+
+def settled_questions():
+    """Every call but the writer's on tables of which states settle; of large ones some steps and one fault question."""
+    r = random.Random(24)
+    made = [settling_table(r, r.randint(2, 7), r.randint(1, 3)) for _ in range(20)] + [settling_table(r, 40, 8)]
+    tables = [list(b) for b in SETTLING + made]
+    assert sum(settled(b) != drawn(b) for b in tables) > len(tables) // 2
+    for b in tables:
+        n, k = b[:2]
+        yield ask_judge(b)
+        yield ask_classes(b, n + 1)
+        steps = list(itertools.product(range(n), range(k)))
+        for d, (q, a) in itertools.product(READINGS, steps if n < 10 else r.sample(steps, 20)):
+            yield ask_step(b, d, q, a)
+        for d, length in itertools.product(READINGS, (0, 1, n // 2 - 1, n // 2, n // 2 + 1, n - 1, n)):
+            yield ask_trace(b, d, [r.randrange(k) for _ in range(max(length, 0))])
+        for d in READINGS if n < 10 else [r.choice(READINGS)]:
+            first = first_witnesses(b, d, differ)
+            sets = range(16) if n < 10 else [r.choice((*KINDS, 15))]
+            for faults in sets:
+                yield from ask_found(b, faults, d, first)
+            if d == 3:
+                yield [5, 0, 0, 0] + b, card(b, first)
+            for verdict in range(d) if n < 10 else ():
+                first = first_witnesses(b, d, misread(verdict))
+                for faults in (*KINDS, 15):
+                    yield from ask_trusted(b, faults, d, verdict, first)
+
+
 total = compare(itertools.chain(small_questions(), damaged_questions(), refused_questions(), random_questions(),
-                                fallen_questions(), written_questions(), trust_questions()))
+                                fallen_questions(), written_questions(), trust_questions(), settled_questions()))
 print(f"compare.py: {total} answers compared with the model, all equal")
