@@ -9,8 +9,9 @@ import reference
 from reference import (CORRUPTION, LOSS, REPEAT, SWAP, Refused, classes, fault, judge, listing, step, trace, trust,
                        write_collection)
 from rings import rings
-from tables import (A, B, C, D, E, G, H, LOWER_TRACE_HARMED, LOWER_TRACE_SWAPPED, THREE_IN_A_ROW, UGLY_FURTHER_ON,
-                    UGLY_UNREACHABLE, UNREACHABLE_HARM, collection, random_table, table)
+from tables import (A, B, C, D, E, G, H, HARMED_EARLIER, LOWER_TRACE_HARMED, LOWER_TRACE_SWAPPED, SETTLING,
+                    THREE_IN_A_ROW, UGLY_FURTHER_ON, UGLY_UNREACHABLE, UNREACHABLE_HARM, UNREACHED_SETTLES, collection,
+                    random_table, settling_table, table)
 
 
 def answer(call, *arguments):
@@ -55,9 +56,10 @@ def starred_facts():
         check(short(C, SWAP, reading)[:2], (2, [0, 2]), "C, swap")
         check(short(E, REPEAT, reading)[:2], (1, [1]), "E, repeat")
         check(short(E, SWAP, reading), (3, [0, 1, 1], 0, SWAP, 0), "E, swap")
-        check(short(H, LOSS, reading)[0], 1, "H, loss")
+        for faults in range(16):
+            check(short(H, faults, reading), None, "H, every set")
     check((short(G, CORRUPTION, 3)[0], short(G, CORRUPTION, 6)[0]), (2, 1), "G, corruption")
-    check(classes(H, 2).classes[0], reference.POSITIVE, "H, state 0")
+    check(classes(H, 2).classes[0], reference.GOOD, "H, state 0")
 
 
 def edges():
@@ -111,21 +113,26 @@ def examples():
     check(short(LOWER_TRACE_SWAPPED, SWAP), (3, [0, 1, 0], 0, SWAP, 0), "series, swap")
     check(short(E, LOSS), (2, [1, 1], 0, LOSS, 0), "E, loss")
     check(short(A, LOSS), (1, [1], 0, LOSS, 0), "A, loss: received empty")
-    check(short(H, CORRUPTION), None, "H, corruption")
     check(short(THREE_IN_A_ROW, REPEAT)[:2], (2, [1, 1]), "three 1s in a row, repeat")
     check(short(UNREACHABLE_HARM, 15), None, "no fault at unreachable states")
     check(classes(UGLY_FURTHER_ON, 3).monitorability, 3, "ugly further on")
     check(classes(UGLY_UNREACHABLE, 2), (0, 1, [0, 5]), "an unreachable ugly state")
+    check(classes(UNREACHED_SETTLES, 2), (0, 1, [0, 0]), "an unreachable state that settles")
+    came = [figures(fault(HARMED_EARLIER, kind, 3, 99)) for kind in (LOSS, CORRUPTION, REPEAT, SWAP)]
+    check(came, [(1, [1], 0, LOSS, 0), (1, [0], 0, CORRUPTION, 1), None, None], "settled marks, each fault")
     for body, wanted in (([3, 1, 0, 2, 1, 0, 2, 2, 0], (8, 6)), ([2, 2, 0, 0, 1, 0, 1, 0, 7], (7, 8)),
-                         ([2, 2, 0, 0, 1, 0, 1, 0, 1], (8, 7)), ([2, 2, 0, 0, 1, 0, 1, 1], (4, 8)),
+                         ([2, 2, 0, 0, 1, 0, 1, 0, 1], (8, 7)), ([2, 1, 0, 0, 1, 1, 0], (8, 6)),
+                         ([2, 1, 0, 0, 2, 1, 0], (8, 6)), ([2, 2, 0, 0, 1, 0, 1, 1], (4, 8)),
                          ([0, 0, 0], (2, 0)), ([0, 0], (1, 2))):
         check(answer(judge, bytes(body)), wanted, body)
 
 
 def counts():
     """When the verdict falls: of traces, by both readings; and of the sent and the received trace of a witness."""
-    for body, messages, wanted in ((E, [1, 1], 2), (E, [1, 1, 0], 2), (E, [1, 0, 1], None), (E, [], None), (A, [0, 0, 1, 0], 3),
-                                   (H, [], None), (H, [0], 1), (UGLY_UNREACHABLE, [], 0), (UGLY_UNREACHABLE, [0, 0], 0)):
+    for body, messages, wanted in ((E, [1, 1], 2), (E, [1, 1, 0], 2), (E, [1, 0, 1], None), (E, [], None),
+                                   (A, [0, 0, 1, 0], 3), (H, [], 0), (H, [0], 0), (HARMED_EARLIER, [0, 1, 0], 2),
+                                   (HARMED_EARLIER, [0], None), (UGLY_UNREACHABLE, [], 0),
+                                   (UGLY_UNREACHABLE, [0, 0], 0)):
         for reading in (3, 6):
             check(trace(body, reading, messages).count, wanted, (body.hex(), messages))
     for body, faults, reading, wanted in ((E, LOSS, 3, (2, None)), (E, CORRUPTION, 3, (None, 2)), (E, REPEAT, 3, (None, 2)),
@@ -172,7 +179,7 @@ def collections():
     check(collection([(1, A), (2, E), (3, A[:4] + b"\3" + A[5:])]), data, "the collection's writer")
     rules = [(1, A), (2, B), (3, C), (4, D), (5, E), (6, G), (7, H), (8, b""), (9, b"\0"), (65535, bytes(range(6)))]
     lines = ("1 2 pos 1 1 - -/2 2 neg 1 1 - -/3 3 both 1 1 - 2/4 1 none - - - -/5 3 pos 2 2 1 3/6 5 both 2 2 1 3/"
-             "7 2 pos 1 - - -/8 refused 1 0/9 refused 1 1/65535 refused 2 0/")
+             "7 2 pos - - - -/8 refused 1 0/9 refused 1 1/65535 refused 2 0/")
     check(listing(collection(rules)), reference.HEADER + lines.replace("/", "\n"), "listing of ten entries")
     for text, wanted in (("", (20, 0)), ("00", (20, 0)), ("0000FF", (25, 0)), ("0102", (21, 0)), ("0002", (22, 0)),
                          ("0100", (22, 0)), ("01000A00000009000100", (25, 0)), ("01000A00010000000100", (24, 0)),
@@ -188,7 +195,7 @@ def collections():
     check(listing(b"\0\0" + bytes(65535)), "collection refused 26\n", "65,537 bytes")
 
 
-def enumerated(table, faults, values):
+def enumerated(table, marks, faults, values):
     """The first witness of a fault question among all sent traces of up to 2 n messages and all faults in them."""
     def end(messages):
         state = table.start
@@ -200,7 +207,7 @@ def enumerated(table, faults, values):
         return values[end(messages)]
 
     def fell(messages):
-        marked = [i for i in range(len(messages) + 1) if table.marks[end(messages[:i])]]
+        marked = [i for i in range(len(messages) + 1) if marks[end(messages[:i])]]
         return min(marked, default=None)
 
     for length in range(2 * table.n + 1):
@@ -233,17 +240,20 @@ def small_tables(n, k):
 
 
 def enumeration():
-    """All tables of one or two states and one or two messages, and random ones of three; all sets, both readings."""
+    """All tables of one or two states and one or two messages, and random ones of three, some of which settle; all
+    sets, both readings."""
     bodies = [body for n in (1, 2) for k in (1, 2) for body in small_tables(n, k)]
     check(len(bodies), 182, "number of small tables")
     rng = random.Random("check_reference")
     bodies += [random_table(rng, 3, 2) for _ in range(60)] + [random_table(rng, 2, 3) for _ in range(40)]
+    bodies += [body for body in SETTLING if body[0] == 3] + [settling_table(rng, 3, 2) for _ in range(6)]
     for body in bodies:
-        table = reference.read_table(body)
+        table, marks = reference.read_table(body), brute.marks_by_series(body)
+        check(tuple(table.marks), marks, (body.hex(), "settled marks"))
         for reading in (3, 6):
             values = [reference.read_state(table, reading, s) for s in range(table.n)]
             for faults in range(16):
-                wanted = enumerated(table, faults, values)
+                wanted = enumerated(table, marks, faults, values)
                 check(fault(body, faults, reading, 99), wanted, (body.hex(), faults, reading))
 
 
@@ -260,19 +270,57 @@ def every_series(b, reading, test):
     return brute.first_series(b, reading, b[0] ** 2, test)
 
 
+def check_sets(b, first, found, about):
+    """The first witness of every set, by the first of each kind."""
+    for faults in range(16):
+        check(series_of(found(faults)), model.first_of(first, faults), (bytes(b).hex(), faults, about))
+
+
 def searches():
     """Every verdict, by the searches of brute.py, for small tables, and of model.py; all sets, both readings."""
     rng = random.Random("searches")
     small = model.small_tables() + [list(random_table(rng, 3, 2)) for _ in range(20)]
     sizes = [(rng.randint(3, 9), rng.randint(1, 4)) for _ in range(40)]
     larger = [list(random_table(rng, n, k)) for n, k in sizes] + [list(table(*rings(4, 6)))]
+    larger += [list(settling_table(rng, rng.randint(3, 9), 2)) for _ in range(6)]
     asked = [(b, every_series) for b in small] + [(b, model.first_witnesses) for b in small[182:] + larger]
     for (b, search), reading in itertools.product(asked, (3, 6)):
         for verdict in range(reading):
             first = search(b, reading, model.misread(verdict))
-            for faults in range(16):
-                came = series_of(trust(bytes(b), faults, reading, verdict, 1000))
-                check(came, model.first_of(first, faults), (bytes(b).hex(), faults, reading, verdict))
+            check_sets(b, first, lambda faults: trust(bytes(b), faults, reading, verdict, 1000), (reading, verdict))
+
+
+def check_states(body, rng):
+    """The settled marks, the classes, a step and a trace, by model.py."""
+    b, n, k = list(body), *body[:2]
+    check(tuple(reference.read_table(body).marks), model.settled(b), (body.hex(), "settled marks"))
+    of_state = [model.state_class(b, q) for q in range(n)]
+    came = classes(body, n)
+    check(reference.MONITORABILITY[came.monitorability], model.monitorability(b), (body.hex(), "monitorability"))
+    check((came.reached, came.classes), (len(model.reach(b, b[2])), of_state), (body.hex(), "classes"))
+    for reading in (3, 6):
+        state, message = rng.randrange(n), rng.randrange(k)
+        after = model.run(b, state, [message])
+        check(step(body, reading, state, message), (after, model.reading(b, reading, after)), (body.hex(), "step"))
+        messages = [rng.randrange(k) for _ in range(rng.randrange(n + 1))]
+        came = trace(body, reading, messages)
+        wanted = model.reading(b, reading, model.run(b, b[2], messages)), model.count(b, messages)
+        check((came.reading, "never" if came.count is None else str(came.count)), wanted, (body.hex(), messages))
+
+
+def settled_tables():
+    """Tables of which states settle; of small ones also the marks by every series of messages, and the witnesses."""
+    rng = random.Random("settled tables")
+    small = [body for body in SETTLING if body[0] < 10] + [settling_table(rng, rng.randint(3, 7), 2) for _ in range(20)]
+    large = [body for body in SETTLING if body[0] > 10] + [settling_table(rng, 64, k) for k in (1, 2, 16)]
+    for body in small + large:
+        check_states(body, rng)
+    for body in small:
+        b, first = list(body), {reading: model.first_witnesses(list(body), reading, model.differ) for reading in (3, 6)}
+        check(tuple(reference.read_table(body).marks), brute.marks_by_series(b), (body.hex(), "marks by series"))
+        for reading in (3, 6):
+            check_sets(b, first[reading], lambda faults: fault(body, faults, reading, 1000), reading)
+        check(reference.listing_line(5, body), f"5 {model.card(b, first[3])}\n", (body.hex(), "listing"))
 
 
 if __name__ == "__main__":
@@ -286,4 +334,5 @@ if __name__ == "__main__":
     collections()
     enumeration()
     searches()
+    settled_tables()
     print(f"check_reference: {checks:,} checks, no difference")

@@ -1,13 +1,14 @@
 """The inputs of hostile.py, in groups. A case is a program, its arguments and its standard input."""
 
+import itertools
 import os
 import tempfile
 
 import reference
 from reference import INPUT_LIMIT
 from rings import rings
-from tables import (A, B, C, D, E, NAMED, collection, damaged, far_table, in_a_row, late_repeat, packed, random_table,
-                    table)
+from tables import (A, B, C, D, E, NAMED, SETTLING, collection, damaged, far_table, in_a_row, late_repeat, packed,
+                    random_table, settling, settling_table, table)
 
 ROOM = 1000         # an area that holds every answer here
 WIDE = [2**8, 2**8 + 1, 2**16, 2**32, 2**32 + 1, 2**32 + 3, 2**63, 2**64 - 1, 2**64, 2**64 + 1, 2**64 + 3, 2**64 + 6,
@@ -43,8 +44,8 @@ def vulnerable_table(rng, n, k):
     """A table whose reached states read differently, so that loss harms it, if one comes up in 20 draws."""
     for _ in range(20):
         body = random_table(rng, n, k)
-        drawn = reference.read_table(body)
-        if len({drawn.marks[s] for s in reference.reached_from(drawn, drawn.start)}) > 1:
+        made = reference.read_table(body)
+        if len({made.marks[s] for s in reference.reached_from(made, made.start)}) > 1:
             break
     return body
 
@@ -146,6 +147,45 @@ def far_misreadings(rng):
             for near in trust_areas(body, faults, reading, verdict):
                 for area in {0, near, near + 1, rng.choice([255, 256, 4161, 4162, 4163, 5000, *WIDE])}:
                     yield ask(body, "trust", faults, reading, verdict, area)
+
+
+def some_settling(rng, count, states=8):
+    """Random tables of which most states settle."""
+    return [settling_table(rng, rng.randint(2, states), rng.randint(1, 4)) for _ in range(count)]
+
+
+def settled_listings(rng):
+    """Tables of which states settle, of many sizes."""
+    sizes = [(n, rng.randint(1, 16)) for n in range(1, 65)]
+    bodies = SETTLING + some_settling(rng, 900) + [settling_table(rng, n, k) for n, k in sizes]
+    yield from map(listing, packed(bodies))
+
+
+def settled_answers(rng):
+    """Every call on tables of which states settle, with fewer sets for large ones; traces up to one longer than n."""
+    for body in SETTLING + some_settling(rng, 20) + some_settling(rng, 10, 64):
+        n, k = body[:2]
+        yield ask(body, "judge")
+        yield ask(body, "classes", n)
+        for reading in (3, 6):
+            yield ask(body, "step", reading, rng.randrange(n), rng.randrange(k))
+            for length in sorted({0, 1, n // 2, n - 1, n + 1}):
+                yield ask(body, "trace", reading, *[rng.randrange(k) for _ in range(length)])
+        asked = itertools.product((3, 6), (1, 2, 4, 8, 15)) if n < 9 else [rng.choice([(3, 15), (6, 3)])]
+        for reading, faults in asked:
+            yield ask(body, "fault", faults, reading, ROOM)
+            yield ask(body, "trust", faults, reading, rng.randrange(reading), ROOM)
+
+
+def settled_damage(rng):
+    """A state marked true or false that steps to one that settles so: refused all the same, alone and behind others."""
+    for n, k in ((2, 1), (3, 2), (7, 3), (64, 16)):
+        for mark, rising in ((1, False), (1, True), (2, False), (2, True)):
+            start, marks, rows = settling(n, k, mark, rising)
+            rows[marks.index(mark)][rng.randrange(k)] = start
+            for words in (["judge"], ["classes", n], ["fault", 16, 5, 0], ["trust", 15, 3, mark, ROOM]):
+                yield ask(table(start, marks, rows), *words)
+            yield listing(collection([(1, A), (2, table(start, marks, rows)), (3, E)]))
 
 
 def classes_of_tables(rng):
@@ -680,15 +720,16 @@ def input_sizes(rng):
 
 
 def believed_marks(rng):
-    """Cards: the specification's tables, rings, random small tables, and a body that is refused."""
+    """Cards: the specification's tables, rings, random small tables, some that settle, and a body that is refused."""
     bodies = NAMED + RINGS + [vulnerable_table(rng, rng.randint(2, 12), rng.randint(1, 4)) for _ in range(100)]
+    bodies += [body for body in SETTLING if body[0] < 9] + some_settling(rng, 30)
     yield "card", [], collection(list(enumerate(bodies + [A[:-1]])))
 
 
 GROUPS = [named_tables, small_listings, listings_of_all_sizes, far_listings, witnesses_of_small_tables,
           witnesses_of_all_sizes, areas_for_witnesses, trusted_verdicts, trust_questions, trust_of_all_sizes,
-          far_misreadings, believed_marks, classes_of_tables, steps_and_traces, fallen_verdicts, traces_in_files, damaged_in_listings,
-          damaged_in_calls, lengths_and_counts, random_bytes, numbers_around_limits, leading_zeros, wrong_arguments,
-          cut_collections, altered_collections, counts_and_numbers, gaps_and_overlaps, random_collections,
-          rules_of_collections, bodies_of_rules, written_lists, unequal_lists, wrong_bodies, many_rules, wrong_lists,
-          packed_files, input_sizes]
+          far_misreadings, believed_marks, settled_listings, settled_answers, settled_damage, classes_of_tables,
+          steps_and_traces, fallen_verdicts, traces_in_files, damaged_in_listings, damaged_in_calls, lengths_and_counts,
+          random_bytes, numbers_around_limits, leading_zeros, wrong_arguments, cut_collections, altered_collections,
+          counts_and_numbers, gaps_and_overlaps, random_collections, rules_of_collections, bodies_of_rules,
+          written_lists, unequal_lists, wrong_bodies, many_rules, wrong_lists, packed_files, input_sizes]

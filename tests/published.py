@@ -17,7 +17,7 @@ NOT_YET, TRUE, FALSE = 0, 1, 2
 
 # The marks of the states, the start first, and for each state the next states by messages {}, {p}, {q}, {p, q}.
 TABLES = {
-    # False at the first message without q. Until then nothing is settled, whether p has come or not.
+    # False at the first message without q. Until then nothing is decided, whether p has come or not.
     "F p & G q": table(0, [NOT_YET, FALSE], [[1, 1, 0, 0], [1, 1, 1, 1]]),
     "G p": table(0, [NOT_YET, FALSE], [[1, 0, 1, 0], [1, 1, 1, 1]]),
     # The first message decides, but for one that has q alone (state 3): then q must stay.
@@ -30,7 +30,7 @@ TABLES = {
     "G p | F q": table(0, [NOT_YET, TRUE], [[0, 0, 1, 1], [1, 1, 1, 1]]),
     "G F p": table(0, [NOT_YET], [[0, 0, 0, 0]]),
     # The first message decides, but for one that has q alone (state 3): then p must come ever again, which is never
-    # settled.
+    # decided.
     "(p | G F p) & q": table(0, [NOT_YET, TRUE, FALSE, NOT_YET],
                              [[2, 2, 3, 1], [1, 1, 1, 1], [2, 2, 2, 2], [3, 3, 3, 3]]),
 }
@@ -57,8 +57,8 @@ EXCEPTIONS = {("p", CORRUPTION, NOT_YET): "+", ("p", SWAP, NOT_YET): "+"}
 
 def said(body, verdict):
     """Whether some trace reads the verdict."""
-    drawn = reference.read_table(body)
-    return verdict in {drawn.marks[s] for s in reference.reached_from(drawn, drawn.start)}
+    held = reference.read_table(body)
+    return verdict in {held.marks[s] for s in reference.reached_from(held, held.start)}
 
 
 def check(name, body, kind, verdict, published):

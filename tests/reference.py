@@ -4,6 +4,7 @@ The programs' answers are compared with these. Each function follows its words; 
 from the library. Bytes go in; an answer comes out or `Refused` is raised with a number and a place.
 """
 
+import functools
 import heapq
 from collections import namedtuple
 
@@ -35,8 +36,8 @@ def question(yes, number, place):
 
 # ---- one table -------------------------------------------------------------------------------------------
 
-def read_table(body):
-    """Questions 1 to 8, and the table."""
+def drawn_table(body):
+    """Questions 1 to 8, and the table with its marks as drawn."""
     question(len(body) >= 3, 1, len(body))
     n, k, start = body[0], body[1], body[2]
     question(1 <= n <= 64, 2, 0)
@@ -58,7 +59,31 @@ def read_table(body):
 
 def judge(body):
     """Accepted (nothing is answered), or refused."""
-    read_table(body)
+    drawn_table(body)
+
+
+def settled_mark(table, state):
+    """The verdict of all states to which the series of some length lead, or not yet.
+
+    The lengths are tried one after the other. None is left to try where both verdicts have come, as they stay, or where
+    the states are those of a length before."""
+    states, before = {state}, []
+    while states not in before:
+        marks = {table.marks[s] for s in states}
+        if marks == {1} or marks == {2}:
+            return marks.pop()
+        if marks >= {1, 2}:
+            break
+        before.append(states)
+        states = {after for s in states for after in table.rows[s]}
+    return 0
+
+
+@functools.lru_cache(64)
+def read_table(body):
+    """Questions 1 to 8, and the table with its marks settled."""
+    table = drawn_table(body)
+    return table._replace(marks=[settled_mark(table, state) for state in range(table.n)])
 
 
 def reached_from(table, state):
