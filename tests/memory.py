@@ -14,7 +14,7 @@ import sys
 from concurrent.futures import ThreadPoolExecutor
 
 from inputs import FILES, RINGS, ROOM, ask, kept, listing, longest_bodies, pack, stored, write
-from tables import A, D, collection, damaged, in_a_row, late_repeat, random_table, table
+from tables import A, D, collection, damaged, in_a_row, late_repeat, random_table, settling, table
 
 PROGRAMS = sys.argv[1] if len(sys.argv) > 1 else os.path.join("target", "bin")
 LONG = "7" * 100000
@@ -25,7 +25,7 @@ def card(data, *words):
 
 
 def large_tables():
-    """The longest accepted tables and the longest distances."""
+    """The longest accepted tables, the longest distances, and states that settle last."""
     rng = random.Random("memory")
     far, row = table(*late_repeat(64, 16)), table(*in_a_row(64, 16))
     for body in (far, random_table(rng, 64, 16), table(63, [0] * 64, [[63] * 16] * 64), table(0, [0], [[0] * 16])):
@@ -52,6 +52,11 @@ def large_tables():
         yield ask(collection([(1, far)]), "rule", 1, "trace", 3, stored(name, messages))
     for word in ("@", "@" + FILES.name, "@tests/none", "@" + LONG):
         yield ask(far, "trace", 3, word)
+    for k, rising in ((1, True), (16, False)):
+        body = table(*settling(64, k, 2, rising))
+        yield ask(body, "classes", 64)
+        yield ask(body, "fault", 15, 3, 0)
+        yield ask(table(*settling(64, k, 2, rising, 32)), "trust", 15, 6, 1, ROOM)
     both = collection([(1, far), (65535, row)])
     yield listing(both)
     yield card(both)
