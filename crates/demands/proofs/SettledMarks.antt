@@ -8,13 +8,12 @@ use Rattle.theory.specs.Settled.{settledMark}
 use Rattle.theory.proofs.Values.{values-same}
 use Rattle.theory.proofs.Settled.{settles-sure, sure-one, settles-early, drawn-stays, counts-exact}
 use Rattle.theory.proofs.Settled.{settled-twice, class-settled, monitorability-settled, reached-settled}
-use Rattle.monitor.specs.Format.{statesOf, settledMarks, marks, drawnOf}
+use Rattle.monitor.specs.Format.{statesOf, marks, drawnOf}
 use Rattle.monitor.specs.Questions.{judgeAnswer}
 use Rattle.monitor.proofs.Accepted.{mark-at, accepted-drawn, accepted-table}
 use Rattle.demands.specs.SettledMarks.{SettledMarks}
 
 pub settled-marks : (limit : ℕ) (b : List ℕ) → judgeAnswer limit b ≡ answered [] → SettledMarks limit b
-unfolding settledMarks
 settled-marks limit b e =
     let m = drawnOf b in
     let w = accepted-drawn limit b e in

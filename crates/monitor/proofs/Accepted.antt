@@ -14,7 +14,7 @@ use Rattle.theory.proofs.Below.{first-none}
 use Rattle.theory.proofs.Values.{length-values, getD-values}
 use Rattle.theory.proofs.Answer.{asks-yes, asks-both, asks-refused, asks-passed, untouched}
 use Rattle.theory.proofs.Settled.{settled-well-formed}
-use Rattle.monitor.specs.Format.{statesOf, symbolsOf, startOf, drawnMarks, settledMarks, marks, nexts, drawnOf, Rows, Table}
+use Rattle.monitor.specs.Format.{statesOf, symbolsOf, startOf, drawnMarks, marks, nexts, drawnOf, Rows, Table}
 use Rattle.monitor.specs.Questions.{firstNotBelow, revokes, firstRevoking, question6, question7, question8, headQuestions, rowQuestions, tableQuestions}
 use Rattle.monitor.specs.Questions.{judgeAnswer}
 use Rattle.basics.specs.Refusals.{refusal}
@@ -43,7 +43,6 @@ well-formed-of {limit} {b} h six seven eight = record {
 
 -- the mark of a state, settled
 pub mark-at : (b : List ℕ) (q : ℕ) → q < statesOf b → getD (marks b) q 0 ≡ settledMark (drawnOf b .automaton) (drawnOf b .verdict) q
-unfolding settledMarks
 mark-at b q l = getD-values (statesOf b) (settledMark (drawnOf b .automaton) (drawnOf b .verdict)) q l
 
 module _ (limit : ℕ) (b : List ℕ) where
@@ -68,7 +67,6 @@ module _ (limit : ℕ) (b : List ℕ) where
   accepted-drawn e = passed-rows e .1
 
   pub accepted-table : judgeAnswer limit b ≡ answered [] → Table limit (statesOf b) (symbolsOf b) (startOf b) (marks b) (nexts b)
-  unfolding settledMarks
   accepted-table e = record {
     rows = passed-rows e .0;
     marks-length = length-values (statesOf b) _;

@@ -42,7 +42,7 @@ abbrev pub tableOf : ℕ → ℕ → ℕ → List ℕ → List ℕ → Monitor
 tableOf n k s vs ts = record { automaton = automatonOf n k ts; start = s; verdict = λ q. getD vs q 0 }
 
 -- the settled marks of n states with k symbols (02, note 5), of the marks vs as drawn
-unfoldable pub settledMarks : ℕ → ℕ → List ℕ → List ℕ → List ℕ
+abbrev pub settledMarks : ℕ → ℕ → List ℕ → List ℕ → List ℕ
 settledMarks n k vs ts = values n (settledMark (automatonOf n k ts) (λ q. getD vs q 0))
 
 -- "Both readings, the classes, the count of Note 1 and the distances use these settled marks."

@@ -59,7 +59,7 @@ settled-drawn (suc v) t f a = refl
 -- the area filled by the two sets holds the settled marks
 pub settled-filled : {n : ℕ} (k : ℕ) (vs ts area : List ℕ) {t f : StateSet} {i : ℕ} → i ≡ n → Exactly n (bound (automatonOf n k ts) (hasMark vs 1)) t
     → Exactly n (bound (automatonOf n k ts) (hasMark vs 2)) f → filled (settledBy vs t f) area i ≡ settledMarks n k vs ts ++ drop n area
-unfolding settledMark settledMarks
+unfolding settledMark
 settled-filled {n} k vs ts area {t} {f} e et ef =
     filled-same (settledBy vs t f) (settledMark (automatonOf n k ts) (λ q. getD vs q 0)) area e
     (λ q l. ap₂ (settledFrom (getD vs q 0)) (exactly-in et q l) (exactly-in ef q l))

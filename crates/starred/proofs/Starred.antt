@@ -20,7 +20,7 @@ use Rattle.theory.proofs.Faults.{steps-good}
 use Rattle.theory.proofs.Witness.{strikes, found-early, found-never}
 use Rattle.theory.proofs.Exact.{class-exact, monitorability-exact}
 use Rattle.theory.proofs.Distance.{distance-exact, witness-first}
-use Rattle.monitor.specs.Format.{statesOf, settledMarks, monitorOf}
+use Rattle.monitor.specs.Format.{statesOf, monitorOf}
 use Rattle.monitor.specs.Questions.{judgeAnswer}
 use Rattle.monitor.proofs.Accepted.{accepted-table}
 use Rattle.starred.specs.Starred.{Fact, monitorable, classed, immune, distant, witnessed, Accepted, UnderBoth, Witnessed, Holds, Hold, starred}
@@ -109,9 +109,7 @@ hold-by end = tt
 hold-by (_also_ {f} {fs} c cs) = (holds-by f c, hold-by cs)
 
 pub starred-hold : Hold starred
-unfolding flatMap judgeAnswer first any values find each within leads boundWithin bound run settledMark settledMarks
-
-unfolding class monitorability reading told steps words series
+unfolding flatMap judgeAnswer first any values find each within leads boundWithin bound run settledMark class monitorability reading told steps words series
 starred-hold =
     hold-by {fs = starred}
     ((refl, refl) also (refl, refl) also (refl, refl) also (refl, refl)
