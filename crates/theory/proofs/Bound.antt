@@ -30,7 +30,7 @@ module _ (g : Automaton) (f : ℕ → Bool) where
   pub bound-here : (r q : ℕ) → f q ≡ true → boundWithin g f r q ≡ true
   unfolding boundWithin
   bound-here zero q e = e
-  bound-here (suc r) q e = or-left (f q) (every (g .symbols) (after r q)) e
+  bound-here (suc r) q e = or-left (f q) _ e
 
   pub bound-step : (r q : ℕ) → ((a : ℕ) → a < g .symbols → boundWithin g f r (g .next q a) ≡ true) → boundWithin g f (suc r) q ≡ true
   unfolding boundWithin
