@@ -18,7 +18,31 @@ static int first_not_below(const uint8_t *b, int len, int bound)
     return len;
 }
 
-// Questions 1 to 8. Returns the number of the first no with its place, or 0 and the table.
+// Settles the marks: a state without one takes that of its next states where they all have the same, until none does.
+static void settle(struct table *t)
+{
+    static uint8_t settled[STATES];
+    bool more = true;
+    memcpy(settled, t->marks, t->n);
+    while (more) {
+        more = false;
+        for (int q = 0; q < t->n; q++) {
+            const uint8_t *next = t->next + q * t->k;
+            int mark = settled[next[0]], a = 1;
+            if (settled[q] || !mark)
+                continue;
+            while (a < t->k && settled[next[a]] == mark)
+                a++;
+            if (a == t->k) {
+                settled[q] = mark;
+                more = true;
+            }
+        }
+    }
+    t->marks = settled;
+}
+
+// Questions 1 to 8. Returns the number of the first no with its place, or 0 and the table with its marks settled.
 static int judge(const uint8_t *body, int len, int *place, struct table *t)
 {
     *place = len;
@@ -55,6 +79,7 @@ static int judge(const uint8_t *body, int len, int *place, struct table *t)
                 return 8;
         }
     }
+    settle(t);
     return 0;
 }
 

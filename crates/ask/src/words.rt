@@ -53,18 +53,18 @@ fn forms(out: Output) -> Output {
 pub fn help() {
     forms(output::standard(Program::Ask))
         .text(
-            b"\nA reading is 3 (marks) or 6 (classes); a set is the sum of loss 1, corruption 2, repeat 4, swap 8;\n",
+            b"\nA reading is 3 (settled marks) or 6 (classes); a set is the sum of loss 1, corruption 2, repeat 4,\n",
         )
         .text(
-            b"a verdict is 0 not yet, 1 true, 2 false under reading 3, under reading 6 a class: 0 good, 1 bad,\n",
+            b"swap 8; a verdict is 0 not yet, 1 true, 2 false under reading 3, under reading 6 a class: 0 good,\n",
         )
         .text(
-            b"2 positive, 3 negative, 4 neutral, 5 ugly. It can be believed if the sent trace reads it wherever\n",
+            b"1 bad, 2 positive, 3 negative, 4 neutral, 5 ugly. It can be believed if the sent trace reads it\n",
         )
         .text(
-            b"the received one does. AREA is the number of bytes lent for the answer: 5000 is always enough, for\n",
+            b"wherever the received one does. AREA is the number of bytes lent for the answer: 5000 is always\n",
         )
-        .text(b"write 69634. A refusal is the word refused, a number and a place.\n\n")
+        .text(b"enough, for write 69634. A refusal is the word refused, a number and a place.\n\n")
         .text(b"Example: ask rule 20 fault 8 3 3 < samples/sample.collection\n")
         .text(
             b"docs/FORMAT.md in the repository explains the bytes, the numbers and the answers.\n",

@@ -20,6 +20,10 @@ pub fn help(out: Output) {
         )
         .text(b"Brackets show what the fault strikes.\n")
         .text(
+            b"The settled line names the states that are drawn not yet and count as true or false already, since\n",
+        )
+        .text(b"nothing else can come.\n")
+        .text(
             b"The believe line says of each mark whether, where the received trace reads it, the sent one does.\n\n",
         )
         .text(b"Example: card 20 < samples/sample.collection\n")

@@ -2,8 +2,8 @@
 use mathlib.Core.Path.{_≡_}
 use mathlib.Core.List.{List}
 use mathlib.Core.Logic.{_↔_}
-use Prim.Native.Nat.{ℕ, _<_}
-use Rattle.theory.specs.Monitor.{WellFormed, class, monitorability, statesReached}
+use Prim.Native.Nat.{ℕ, _≤_, _<_}
+use Rattle.theory.specs.Monitor.{WellFormed, Finds, class, monitorability, statesReached}
 use Rattle.theory.specs.Settled.{Settles, CountsAs, Becomes}
 use Rattle.monitor.specs.Format.{statesOf, symbolsOf, settledMarks, marks, nexts, drawnOf, monitorOf}
 
@@ -26,6 +26,7 @@ pub record SettledMarks (limit : ℕ) (b : List ℕ) : Type 0 where
   pub twice : settledMarks (statesOf b) (symbolsOf b) (marks b) (nexts b) ≡ marks b
   -- a class changes only from positive to good and from negative to bad
   pub classes : (q : ℕ) → q < statesOf b → Becomes (class (drawnOf b) q) (class (monitorOf b) q)
-  -- the monitorability and the number of states reached do not change
-  pub weak : monitorability (monitorOf b) ≡ monitorability (drawnOf b)
+  -- what can be found does not change, nor do the monitorability and the number of states reached
+  pub found : (q v : ℕ) → q < statesOf b → 0 < v → v ≤ 2 → Finds (drawnOf b) v q ↔ Finds (monitorOf b) v q
+  pub table : monitorability (monitorOf b) ≡ monitorability (drawnOf b)
   pub reached : statesReached (monitorOf b) ≡ statesReached (drawnOf b)

@@ -14,14 +14,14 @@ use Rattle.readings.specs.Readings.{traceAnswer}
 
 -- `limit` is the greatest number of states
 pub record VerdictFall (limit : ℕ) (b w : List ℕ) : Type 0 where
-  -- the count is the least number of messages after which the mark is true or false, or missing; there is no other
+  -- the count is the least number of messages after which the verdict is true or false, or missing; there is no other
   pub least : FirstVerdict (monitorOf b) w (verdictCount (monitorOf b) w)
   pub only : (e : Extent) → FirstVerdict (monitorOf b) w e → e ≡ verdictCount (monitorOf b) w
-  -- "0 if the start is already marked"
+  -- "0 if the start is already marked", or settled
   pub at-start : 0 < monitorOf b .verdict (monitorOf b .start) → verdictCount (monitorOf b) w ≡ number 0
   -- never, exactly "if the trace ends at not yet"
   pub never : (verdictCount (monitorOf b) w ≡ missing) ↔ (reads (monitorOf b) 3 w ≡ 0)
-  -- a count is at most the trace's length, and the mark after so many messages is the mark at the end
+  -- a count is at most the trace's length, and the verdict after so many messages is that at the end
   pub kept : (i : ℕ) → verdictCount (monitorOf b) w ≡ number i
       → (i ≤ length w) × (reads (monitorOf b) 3 (take i w) ≡ reads (monitorOf b) 3 w)
   -- under both readings the trace is answered with its reading and this count

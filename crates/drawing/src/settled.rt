@@ -3,9 +3,10 @@ use crate::states;
 use output::Output;
 use theory::STATE_LIMIT;
 
-// The verdict that is settled at a state of this mark and class: 1 true, 2 false, 0 none.
-fn verdict(mark: usize, class: u8) -> u8 {
-    if mark != 0 {
+// What a state that is drawn so and has this class is settled as: 1 true, 2 false; 0 where it is drawn true or false,
+// or where neither is settled.
+fn verdict(drawn: usize, class: u8) -> u8 {
+    if drawn != 0 {
         return 0;
     }
     match class {
@@ -15,12 +16,12 @@ fn verdict(mark: usize, class: u8) -> u8 {
     }
 }
 
-// Writes the verdict of each state.
-fn write_verdicts(marks: &[u8], classes: &[u8], verdicts: &mut [u8]) {
+// Writes what each state is settled as.
+fn write_verdicts(drawn: &[u8], classes: &[u8], verdicts: &mut [u8]) {
     let n = basics::least_of(classes.len(), verdicts.len());
     let mut q = 0;
     while q < n {
-        verdicts[q] = verdict(basics::byte_at(marks, q), classes[q]);
+        verdicts[q] = verdict(basics::byte_at(drawn, q), classes[q]);
         q += 1;
     }
 }
@@ -39,9 +40,9 @@ fn has_state(verdicts: &[u8], verdict: u8) -> bool {
 }
 
 // The line of a table's settled states, if it has any: those of true, then those of false.
-pub fn line(out: Output, marks: &[u8], classes: &[u8]) -> Output {
+pub fn line(out: Output, drawn: &[u8], classes: &[u8]) -> Output {
     let mut area = [0u8; STATE_LIMIT];
-    write_verdicts(marks, classes, &mut area);
+    write_verdicts(drawn, classes, &mut area);
     let verdicts = basics::part(&area, 0, classes.len());
     if has_state(verdicts, 1) {
         let begun = verdict_states(out, b"  settled true: ", verdicts, 1);

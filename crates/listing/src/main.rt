@@ -43,9 +43,9 @@ fn print_help(out: Output) {
             b"listing reads a collection from standard input and prints a line for each rule: the rule's number,\n",
         )
         .text(
-            b"its states, its monitorability, and the distance under loss, corruption, repeat and swap by marks,\n",
+            b"its states, its monitorability, and the distance under loss, corruption, repeat and swap by settled\n",
         )
-        .text(b"- where it is immune; or refused, a number and a place.\n\n")
+        .text(b"marks, - where it is immune; or refused, a number and a place.\n\n")
         .text(b"Example: listing < samples/sample.collection\n")
         .text(b"docs/FORMAT.md in the repository explains the words and the numbers.\n");
 }

@@ -1,20 +1,17 @@
 -- What holds of an accepted body: as drawn it is well formed, and so it is with its marks settled.
 use mathlib.Core.Path.{_≡_, sym}
 use mathlib.Core.List.{List, [], _∷_, _++_}
-use Prim.Native.Nat.{ℕ, _+_, _*_, _<_}
+use Prim.Native.Nat.{ℕ, _+_, _*_}
 use native.Mathlib.Nat.{le-of-suc-le-suc}
 use native.Mathlib.Omega.{arith}
 use lib.Arith.{digits-lt}
-use lib.ListN.{length, getD}
+use lib.ListN.{length}
 use borrow.Author.Tests.{eqb-true}
 use Rattle.theory.specs.Answer.{Question, answered, asks, written}
 use Rattle.theory.specs.Monitor.{WellFormed}
-use Rattle.theory.specs.Settled.{settledMark}
 use Rattle.theory.proofs.Below.{first-none}
-use Rattle.theory.proofs.Values.{length-values, getD-values}
 use Rattle.theory.proofs.Answer.{asks-yes, asks-both, asks-refused, asks-passed, untouched}
-use Rattle.theory.proofs.Settled.{settled-well-formed}
-use Rattle.monitor.specs.Format.{statesOf, symbolsOf, startOf, drawnMarks, marks, nexts, drawnOf, Rows, Table}
+use Rattle.monitor.specs.Format.{statesOf, symbolsOf, startOf, drawnMarks, marks, nexts, drawnOf, Table}
 use Rattle.monitor.specs.Questions.{firstNotBelow, revokes, firstRevoking, question6, question7, question8, headQuestions, rowQuestions, tableQuestions}
 use Rattle.monitor.specs.Questions.{judgeAnswer}
 use Rattle.basics.specs.Refusals.{refusal}
@@ -22,6 +19,7 @@ use Rattle.basics.specs.declared.Refusal.{Refusal}
 use Rattle.monitor.proofs.Revoking.{verdict-stays}
 use Rattle.monitor.proofs.Rows.{next-inside}
 use Rattle.monitor.proofs.Head.{Head, passed-head}
+use Rattle.monitor.proofs.Marks.{settled-table}
 use Rattle.monitor.proofs.Body.{marks-length, nexts-length, all-below, rows-of}
 
 -- what questions 6, 7 and 8 leave, whatever the limit
@@ -41,19 +39,15 @@ well-formed-of {limit} {b} h six seven eight = record {
       (omega (arith, nexts-length h, digits-lt l g))) m;
 }
 
--- the mark of a state, settled
-pub mark-at : (b : List ℕ) (q : ℕ) → q < statesOf b → getD (marks b) q 0 ≡ settledMark (drawnOf b .automaton) (drawnOf b .verdict) q
-mark-at b q l = getD-values (statesOf b) (settledMark (drawnOf b .automaton) (drawnOf b .verdict)) q l
-
 module _ (limit : ℕ) (b : List ℕ) where
   pub accepted-head : judgeAnswer limit b ≡ answered [] → Head limit b
   unfolding judgeAnswer
   accepted-head e = passed-head limit b (asks-both (headQuestions limit b) (rowQuestions b) [] e .0)
 
-  -- what questions 6 to 8 say
-  passed-rows : judgeAnswer limit b ≡ answered [] → Rows limit (statesOf b) (symbolsOf b) (nexts b) × WellFormed limit (drawnOf b)
+  -- the table as drawn
+  pub accepted-drawn : judgeAnswer limit b ≡ answered [] → Table limit (statesOf b) (symbolsOf b) (startOf b) (drawnMarks b) (nexts b)
   unfolding judgeAnswer
-  passed-rows e =
+  accepted-drawn e =
       let h = accepted-head e in
       let q₆ = asks-yes (question6 b) (question7 b ∷ question8 b ∷ []) [] (asks-both (headQuestions limit b) (rowQuestions b) [] e .1) in
       let q₇ = asks-yes (question7 b) (question8 b ∷ []) [] (q₆ .1) in
@@ -61,17 +55,11 @@ module _ (limit : ℕ) (b : List ℕ) where
       let six = eqb-true (firstNotBelow 3 (drawnMarks b)) (length (drawnMarks b)) (q₆ .0) in
       let seven = eqb-true (firstNotBelow (statesOf b) (nexts b)) (length (nexts b)) (q₇ .0) in
       let eight = eqb-true (firstRevoking (drawnMarks b) (nexts b) (symbolsOf b)) (length (nexts b)) (q₈ .0) in
-      (rows-of h seven, well-formed-of h six seven eight)
+      record { rows = rows-of h seven; marks-length = marks-length h; well-formed = well-formed-of h six seven eight }
 
-  pub accepted-drawn : judgeAnswer limit b ≡ answered [] → WellFormed limit (drawnOf b)
-  accepted-drawn e = passed-rows e .1
-
+  -- and with its marks settled
   pub accepted-table : judgeAnswer limit b ≡ answered [] → Table limit (statesOf b) (symbolsOf b) (startOf b) (marks b) (nexts b)
-  accepted-table e = record {
-    rows = passed-rows e .0;
-    marks-length = length-values (statesOf b) _;
-    well-formed = settled-well-formed (accepted-drawn e) (λ q. getD (marks b) q 0) (mark-at b);
-  }
+  accepted-table e = settled-table (accepted-drawn e)
 
 -- ---- what a call answers of a refused and of an accepted body
 

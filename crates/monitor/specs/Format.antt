@@ -41,7 +41,8 @@ graph n k nexts = automatonOf n k (now nexts)
 abbrev pub tableOf : ℕ → ℕ → ℕ → List ℕ → List ℕ → Monitor
 tableOf n k s vs ts = record { automaton = automatonOf n k ts; start = s; verdict = λ q. getD vs q 0 }
 
--- the settled marks of n states with k symbols (02, note 5), of the marks vs as drawn
+-- the settled marks of n states with k symbols, of the marks vs as drawn: where every step keeps vs, as question 8
+-- asks, they are those of 02's note 5 (theory/proofs/Settled.antt)
 abbrev pub settledMarks : ℕ → ℕ → List ℕ → List ℕ → List ℕ
 settledMarks n k vs ts = values n (settledMark (automatonOf n k ts) (λ q. getD vs q 0))
 
@@ -53,7 +54,7 @@ marks b = settledMarks (statesOf b) (symbolsOf b) (drawnMarks b) (nexts b)
 abbrev pub drawnOf : List ℕ → Monitor
 drawnOf b = tableOf (statesOf b) (symbolsOf b) (startOf b) (drawnMarks b) (nexts b)
 
--- the monitor that a body stands for
+-- the monitor that a body stands for, by its settled marks
 abbrev pub monitorOf : List ℕ → Monitor
 monitorOf b = tableOf (statesOf b) (symbolsOf b) (startOf b) (marks b) (nexts b)
 

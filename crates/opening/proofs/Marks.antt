@@ -8,7 +8,7 @@ use native.Mathlib.Omega.{arith}
 use lib.Dec.{eqb, ltb}
 use lib.ListN.{getD, drop}
 use borrow.Author.Tests.{eqb-true, eq-eqb, lt-ltb, le-ltb, ltb-true}
-use Rattle.theory.specs.Automaton.{bound}
+use Rattle.theory.specs.Automaton.{inevitable}
 use Rattle.theory.specs.Settled.{settledFrom, settledMark}
 use Rattle.theory.proofs.Below.{both-ways, or-cases, or-left, or-right, and-left, and-right, and-both, lt-or-le}
 use Rattle.theory.proofs.Values.{filled, filled-same}
@@ -57,8 +57,8 @@ settled-drawn zero t f a = absurd (a refl)
 settled-drawn (suc v) t f a = refl
 
 -- the area filled by the two sets holds the settled marks
-pub settled-filled : {n : ℕ} (k : ℕ) (vs ts area : List ℕ) {t f : StateSet} {i : ℕ} → i ≡ n → Exactly n (bound (automatonOf n k ts) (hasMark vs 1)) t
-    → Exactly n (bound (automatonOf n k ts) (hasMark vs 2)) f → filled (settledBy vs t f) area i ≡ settledMarks n k vs ts ++ drop n area
+pub settled-filled : {n : ℕ} (k : ℕ) (vs ts area : List ℕ) {t f : StateSet} {i : ℕ} → i ≡ n → Exactly n (inevitable (automatonOf n k ts) (hasMark vs 1)) t
+    → Exactly n (inevitable (automatonOf n k ts) (hasMark vs 2)) f → filled (settledBy vs t f) area i ≡ settledMarks n k vs ts ++ drop n area
 unfolding settledMark
 settled-filled {n} k vs ts area {t} {f} e et ef =
     filled-same (settledBy vs t f) (settledMark (automatonOf n k ts) (λ q. getD vs q 0)) area e

@@ -11,7 +11,7 @@ use Rattle.monitor.specs.declared.Shape.{Shape}
 use Rattle.opening.specs.declared.Opened.{Opened}
 use Rattle.opening.specs.declared.Opened.the-variants as opened
 
--- what opening hands out of an accepted body: its table, with the marks in the first places of an array
+-- what opening hands out of an accepted body: its table, with the settled marks in the first places of an array
 pub record Accepts (limit : ℕ) (b : List ℕ) (t : Shape) (space : List ℕ) : Type 0 where
   pub accepted : judgeAnswer limit b ≡ answered noValues
   pub table : Table limit (t .states) (t .symbols) (t .start) (take (t .states) space) (nexts b)

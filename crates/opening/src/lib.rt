@@ -8,7 +8,7 @@ ghost use mathlib.Core.List.{_++_};
 ghost use Prim.Native.Nat.{_≤_};
 ghost use lib.ListN.{length, drop};
 ghost use Rattle.theory.specs.Below.{values};
-ghost use Rattle.theory.specs.Automaton.{bound};
+ghost use Rattle.theory.specs.Automaton.{inevitable};
 ghost use Rattle.theory.specs.Monitor.{stateLimit};
 ghost use Rattle.theory.specs.Settled.{settledFrom};
 ghost use Rattle.state_set.specs.Member.{Exactly};
@@ -42,9 +42,9 @@ pub fn states_marked(marks: &[u8], v: u8) -> StateSet
 fn states_settled(drawn: &[u8], nexts: &[u8], n: usize, k: usize, v: u8) -> StateSet
     requires { ⌜ Rows stateLimit n k (now nexts)
         × (length (now drawn) ≡ n) ⌝ }
-    ensures { λ r. ⌜ Exactly n (bound (graph n k (nexts .entry)) (hasMark (now (drawn .entry)) v)) r ⌝ }
+    ensures { λ r. ⌜ Exactly n (inevitable (graph n k (nexts .entry)) (hasMark (now (drawn .entry)) v)) r ⌝ }
 {
-    reach::bound_for(nexts, n, k, states_marked(drawn, v))
+    reach::inevitable(nexts, n, k, states_marked(drawn, v))
 }
 
 // What a mark counts as, by whether true and whether false is settled.
@@ -77,7 +77,8 @@ fn write_settled(drawn: &[u8], truth: StateSet, falsity: StateSet, area: &mut [u
     }
 }
 
-// The settled marks of n states with k symbols, into the first places of the area.
+// The settled marks of n states with k symbols, into the first places of the area: those of 02's note 5, where every
+// step keeps the marks drawn.
 pub fn settle(drawn: &[u8], nexts: &[u8], n: usize, k: usize, area: &mut [u8])
     requires { ⌜ Rows stateLimit n k (now nexts)
         × (length (now drawn) ≡ n)

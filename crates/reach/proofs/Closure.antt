@@ -10,10 +10,10 @@ use native.Mathlib.Omega.{arith}
 use lib.Dec.{eqb, ltb}
 use borrow.Author.Tests.{eqb-true, eq-eqb, lt-ltb, ltb-true}
 use Rattle.theory.specs.Below.{any, every}
-use Rattle.theory.specs.Automaton.{Automaton, Closed, Trace, run, Reaches, leads, boundWithin, bound, reachedFrom}
+use Rattle.theory.specs.Automaton.{Automaton, Closed, Trace, run, Reaches, leads, inevitableWithin, inevitable, reachedFrom}
 use Rattle.theory.proofs.Below.{clash, is-true, both-ways, or-cases, or-left, or-right, and-left, and-right, and-both, any-at, any-find, every-at, every-all}
 use Rattle.theory.proofs.Reach.{Hits, hits-here, hits-step, run-in, run-append, trace-append, leads-sound, leads-complete, reached-sound, reached-complete}
-use Rattle.theory.proofs.Bound.{bound-here, bound-step, bound-enough}
+use Rattle.theory.proofs.Inevitable.{inevitable-here, inevitable-step, inevitable-enough}
 use Rattle.reach.specs.Closure.{leadsTo, leadsInto, into, spread, Least}
 
 -- ---- expanding: `done` are the states whose successors have been added
@@ -153,7 +153,7 @@ module _ {all : Bool} {g : Automaton} {f wide : ℕ → Bool} (w : Widening all 
   pub widening-last : ((p : ℕ) → p < g .states → spread all g wide (g .states) p ≡ wide p) → Least all g f wide
   widening-last full = record { holds = w .keeps; full = spread-full all g wide (g .states) full; least = w .least }
 
--- ---- the least test is what `leads` and `bound` say
+-- ---- the least test is what `leads` and `inevitable` say
 
 module _ {g : Automaton} (c : Closed g) (f : ℕ → Bool) where
   -- f, or at a state the test of it
@@ -197,20 +197,21 @@ module _ {g : Automaton} (c : Closed g) (f : ℕ → Bool) where
       back : (p : ℕ) → p < g .states → Hits g f p → wide p ≡ true
       back p l h = along p (h .word) l (h .trace) (h .passes)
 
-  pub least-bound : {wide : ℕ → Bool} → Least true g f wide → (q : ℕ) → wide q ≡ (f q || (ltb q (g .states) && bound g f q))
-  unfolding bound boundWithin
-  least-bound {wide} w q = both-ways (w .least (or-at (bound g f)) (or-here (bound g f)) enter q) (or-either (bound g f) wide (w .holds) (back (g .states)) q)
+  pub least-inevitable : {wide : ℕ → Bool} → Least true g f wide → (q : ℕ) → wide q ≡ (f q || (ltb q (g .states) && inevitable g f q))
+  unfolding inevitableWithin
+  least-inevitable {wide} w q =
+      both-ways (w .least (or-at (inevitable g f)) (or-here (inevitable g f)) enter q) (or-either (inevitable g f) wide (w .holds) (back (g .states)) q)
     where
-      enter : (p : ℕ) → p < g .states → into true g (or-at (bound g f)) p ≡ true → or-at (bound g f) p ≡ true
+      enter : (p : ℕ) → p < g .states → into true g (or-at (inevitable g f)) p ≡ true → or-at (inevitable g f) p ≡ true
       enter p l t =
-          or-there (bound g f) p l (bound-enough g f c (suc (g .states)) p l (bound-step g f (g .states) p
-          (λ a i. or-either (bound g f) (bound g f) (bound-here g f (g .states)) (λ q l t. t) (g .next p a)
-          (every-at (g .symbols) (leadsInto g (or-at (bound g f)) p) t a i))))
+          or-there (inevitable g f) p l (inevitable-enough g f c (suc (g .states)) p l (inevitable-step g f (g .states) p
+          (λ a i. or-either (inevitable g f) (inevitable g f) (inevitable-here g f (g .states)) (λ q l t. t) (g .next p a)
+          (every-at (g .symbols) (leadsInto g (or-at (inevitable g f)) p) t a i))))
 
-      back : (r p : ℕ) → p < g .states → boundWithin g f r p ≡ true → wide p ≡ true
+      back : (r p : ℕ) → p < g .states → inevitableWithin g f r p ≡ true → wide p ≡ true
       back zero p l e = w .holds p e
       back (suc r) p l e =
           ⊎-elim (w .holds p)
           (λ h. w .full p l (every-all (g .symbols) (leadsInto g wide p) (λ a i. back r (g .next p a) (c .next-in p a l i)
-          (every-at (g .symbols) (λ x. boundWithin g f r (g .next p x)) h a i))))
-          (or-cases (f p) (every (g .symbols) (λ a. boundWithin g f r (g .next p a))) e)
+          (every-at (g .symbols) (λ x. inevitableWithin g f r (g .next p x)) h a i))))
+          (or-cases (f p) (every (g .symbols) (λ a. inevitableWithin g f r (g .next p a))) e)

@@ -5,21 +5,21 @@ use mathlib.Core.Logic.{⊎-elim}
 use Prim.Native.Nat.{ℕ, _≤_, _<_}
 use lib.Dec.{ltb}
 use borrow.Author.Tests.{lt-ltb, le-ltb, ltb-true}
-use Rattle.theory.specs.Automaton.{Automaton, Closed, leads, bound}
+use Rattle.theory.specs.Automaton.{Automaton, Closed, leads, inevitable}
 use Rattle.theory.proofs.Below.{both-ways, or-cases, or-right, and-left, and-right, and-both}
 use Rattle.theory.proofs.Reach.{hits-here, leads-complete, leads-same}
-use Rattle.theory.proofs.Bound.{bound-here, bound-same}
+use Rattle.theory.proofs.Inevitable.{inevitable-here, inevitable-same}
 use Rattle.state_set.specs.declared.StateSet.{StateSet}
 use Rattle.state_set.specs.Member.{member, Exactly}
 
--- below the bound and past it
+-- below the limit and past it
 pub exactly-in : {n : ℕ} {f : ℕ → Bool} {s : StateSet} → Exactly n f s → (q : ℕ) → q < n → member s q ≡ f q
 exactly-in {n} {f} e q l = e .at q ∙ ap (λ (b : Bool). b && f q) (lt-ltb q n l)
 
 pub exactly-out : {n : ℕ} {f : ℕ → Bool} {s : StateSet} → Exactly n f s → (q : ℕ) → n ≤ q → member s q ≡ false
 exactly-out {n} {f} e q l = e .at q ∙ ap (λ (b : Bool). b && f q) (le-ltb q n l)
 
--- a bound that is equal to another
+-- a limit that is equal to another
 pub exactly-at : {n m : ℕ} {f : ℕ → Bool} {s : StateSet} → n ≡ m → Exactly n f s → Exactly m f s
 exactly-at {f = f} {s = s} e x = subst (λ (i : ℕ). Exactly i f s) e x
 
@@ -50,7 +50,6 @@ module _ {g : Automaton} {f : ℕ → Bool} {s r : StateSet} (c : Closed g) (x :
   reaching-is =
       wide-is (leads g) x (leads-same c (member s) f (exactly-in x)) (λ p l t. leads-complete g f c p l (hits-here g f p t))
 
-  -- what is bound for them
-  pub bound-is : ((p : ℕ) → member r p ≡ (member s p || (ltb p (g .states) && bound g (member s) p))) → Exactly (g .states) (bound g f) r
-  unfolding bound
-  bound-is = wide-is (bound g) x (bound-same g (member s) c f (exactly-in x) (g .states)) (λ p l t. bound-here g f (g .states) p t)
+  -- what cannot avoid them
+  pub inevitable-is : ((p : ℕ) → member r p ≡ (member s p || (ltb p (g .states) && inevitable g (member s) p))) → Exactly (g .states) (inevitable g f) r
+  inevitable-is = wide-is (inevitable g) x (inevitable-same g (member s) c f (exactly-in x) (g .states)) (λ p l t. inevitable-here g f (g .states) p t)

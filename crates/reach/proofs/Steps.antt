@@ -59,9 +59,8 @@ module _ (all : Bool) (g : Automaton) (f : ℕ → Bool) (q : ℕ) where
   pub undecided : false ≡ any (g .symbols) (decides all g f q) → all ≡ into all g f q
   undecided e = sym (enters-by all g f q ∙ rw (← e))
 
--- ---- widening by one state: q is in already, or is added, or does not enter
+  -- ---- widening by one state: q is in already, or is added, or does not enter
 
-module _ (all : Bool) (g : Automaton) (f : ℕ → Bool) (q : ℕ) where
   pub widen-old : {b : Bool} → b ≡ f q → b ≡ true → (p : ℕ) → f p ≡ widened all g f q p
   widen-old h t p =
       let new = into all g f q in

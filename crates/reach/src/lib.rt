@@ -5,7 +5,7 @@ ghost use mathlib.Core.Bool.{_&&_, _||_};
 ghost use Prim.Native.Nat.{ℕ, _<_};
 ghost use lib.Dec.{ltb};
 ghost use Rattle.theory.specs.Below.{any};
-ghost use Rattle.theory.specs.Automaton.{leads, bound, reachedFrom};
+ghost use Rattle.theory.specs.Automaton.{leads, inevitable, reachedFrom};
 ghost use Rattle.theory.specs.Monitor.{stateLimit};
 ghost use Rattle.state_set.specs.Member.{member, Exactly};
 ghost use Rattle.monitor.specs.Format.{Rows, graph};
@@ -52,6 +52,7 @@ fn enters(nexts: &[u8], n: usize, k: usize, q: usize, set: StateSet, all: bool) 
 {
     let mut a = 0;
     while a < k {
+        // A symbol decides that leads into the set or, if `all`, out of it.
         if set.has(monitor::successor(nexts, n, k, q, a)) != all {
             return !all;
         }
@@ -113,11 +114,11 @@ pub fn reaching(nexts: &[u8], n: usize, k: usize, targets: StateSet) -> StateSet
     widen_fully(nexts, n, k, targets, false)
 }
 
-// The targets, and the states from which every trace of some length leads into them or past one.
-pub fn bound_for(nexts: &[u8], n: usize, k: usize, targets: StateSet) -> StateSet
+// The targets, and the states from which every trace of some length leads to or through them.
+pub fn inevitable(nexts: &[u8], n: usize, k: usize, targets: StateSet) -> StateSet
     requires { ⌜ Rows stateLimit n k (now nexts) ⌝ }
     ensures { λ r. ⌜ ((p : ℕ) → member r p
-        ≡ (member targets p || (ltb p n && bound (graph n k (nexts .entry)) (member targets) p))) ⌝ }
+        ≡ (member targets p || (ltb p n && inevitable (graph n k (nexts .entry)) (member targets) p))) ⌝ }
 {
     widen_fully(nexts, n, k, targets, true)
 }

@@ -1,4 +1,4 @@
-// The card of one rule: its monitorability, its states by class, and what each fault does to it.
+// The card of one rule: its monitorability, its states by class and those settled, and what each fault does to it.
 mod words;
 
 use classes::Classification;

@@ -7,7 +7,7 @@ use lib.Dec.{lit<, lit≤}
 use lib.ListN.{length}
 use Rattle.theory.specs.Below.{any, first, values}
 use Rattle.theory.specs.Lists.{find, each}
-use Rattle.theory.specs.Automaton.{Automaton, run, within, leads, boundWithin, bound}
+use Rattle.theory.specs.Automaton.{Automaton, run, within, leads, inevitableWithin}
 use Rattle.theory.specs.Monitor.{Monitor, WellFormed, class, monitorability, reading, stateLimit}
 use Rattle.theory.specs.Settled.{settledMark}
 use Rattle.theory.specs.Pairs.{told}
@@ -109,7 +109,7 @@ hold-by end = tt
 hold-by (_also_ {f} {fs} c cs) = (holds-by f c, hold-by cs)
 
 pub starred-hold : Hold starred
-unfolding flatMap judgeAnswer first any values find each within leads boundWithin bound run settledMark class monitorability reading told steps words series
+unfolding flatMap judgeAnswer first any values find each within leads inevitableWithin run settledMark class monitorability reading told steps words series
 starred-hold =
     hold-by {fs = starred}
     ((refl, refl) also (refl, refl) also (refl, refl) also (refl, refl)

@@ -1,4 +1,4 @@
--- The laws of `any`, `count` and `first`.
+-- The laws of `any`, `every`, `count` and `first`.
 use mathlib.Core.Path.{_≡_, refl, sym, ap, _∙_, subst}
 use mathlib.Core.Bool.{Bool, true, false, not, cond, _&&_, _||_, true≢false, or-comm}
 use mathlib.Core.Logic.{_⊎_, inl, inr, ⊎-elim}

@@ -9,12 +9,12 @@ use native.Mathlib.Omega.{arith}
 use lib.Dec.{eqb}
 use lib.ListN.{length, take, length-append}
 use lib.Seq.{take-at}
-use borrow.Author.Tests.{eqb-true, eqb-false}
+use borrow.Author.Tests.{eqb-true, eqb-false, eq-eqb}
 use Rattle.theory.specs.Extent.{Extent, number, missing, ShortestLength}
 use Rattle.theory.specs.Automaton.{Trace, run}
 use Rattle.theory.specs.Monitor.{Monitor, WellFormed, marked, class, reading}
 use Rattle.theory.specs.Count.{Decided, later, countFrom}
-use Rattle.theory.proofs.Reach.{run-in, run-append, trace-left, trace-right}
+use Rattle.theory.proofs.Reach.{run-in, lasts, run-append, trace-left, trace-right}
 
 -- ---- so many more
 
@@ -102,13 +102,19 @@ module _ (m : Monitor) where
 -- ---- a verdict that fell is kept
 
 module _ {limit : ℕ} {m : Monitor} (h : WellFormed limit m) where
+  -- every step keeps the mark v
+  pub verdict-stays : (v q a : ℕ) → 0 < v → q < m .automaton .states → a < m .automaton .symbols → marked m v q ≡ true
+      → marked m v (m .automaton .next q a) ≡ true
+  verdict-stays v q a p l i e =
+      let is = eqb-true (m .verdict q) v e in
+      eq-eqb (m .verdict (m .automaton .next q a)) v (h .verdict-kept q a l i (omega (arith, p, is)) ∙ is)
+
   pub verdict-lasts : (q : ℕ) (w : List ℕ) → q < m .automaton .states → Trace (m .automaton) w → 0 < m .verdict q
       → m .verdict (run (m .automaton) q w) ≡ m .verdict q
-  unfolding run Trace
-  verdict-lasts q [] l t p = refl
-  verdict-lasts q (a ∷ w) l t p =
-      let kept = h .verdict-kept q a l (t .0) p in
-      verdict-lasts (m .automaton .next q a) w (h .closed .next-in q a l (t .0)) (t .1) (omega (arith, kept, p)) ∙ kept
+  verdict-lasts q w l t p =
+      let v = m .verdict q in
+      eqb-true (m .verdict (run (m .automaton) q w)) v
+      (lasts (marked m v) (h .closed) (λ x a i j. verdict-stays v x a p i j) q w l t (eq-eqb v v refl))
 
   module _ (q : ℕ) (w : List ℕ) (l : q < m .automaton .states) (t : Trace (m .automaton) w) where
     -- the verdict after a beginning that decides is that after the whole trace

@@ -16,7 +16,7 @@ use Rattle.theory.proofs.Reach.{run-in, reaches-hits, leads-sound, lead
 module _ {limit : ℕ} {m : Monitor} (w : WellFormed limit m) where
   -- ---- which verdicts can be found
 
-  found : (v q : ℕ) → leads (m .automaton) (marked m v) q ≡ true → Finds m v q
+  pub found : (v q : ℕ) → leads (m .automaton) (marked m v) q ≡ true → Finds m v q
   found v q e =
       let h = leads-sound (m .automaton) (marked m v) q e in
       record {
@@ -25,7 +25,7 @@ module _ {limit : ℕ} {m : Monitor} (w : WellFormed limit m) where
         reads = eqb-true (m .verdict (run (m .automaton) q (h .word))) v (h .passes);
       }
 
-  sought : (v q : ℕ) → q < m .automaton .states → Finds m v q → leads (m .automaton) (marked m v) q ≡ true
+  pub sought : (v q : ℕ) → q < m .automaton .states → Finds m v q → leads (m .automaton) (marked m v) q ≡ true
   sought v q l f =
       leads-complete (m .automaton) (marked m v) (w .closed) q l (reaches-hits (marked m v) (eq-eqb (m .verdict (f .state)) v (f .reads)) (f .reaches))
 

@@ -8,7 +8,7 @@ pub mod Rounds
 pub mod Reach
 pub mod Exact
 pub mod Count
-pub mod Bound
+pub mod Inevitable
 pub mod Settled
 pub mod Pairs
 pub mod Order

@@ -21,6 +21,13 @@ unfolding run Trace
 run-in c q [] l t = l
 run-in {g} c q (a ∷ w) l t = run-in c (g .next q a) w (c .next-in q a l (t .0)) (t .1)
 
+-- a test that every step keeps is kept along a trace
+pub lasts : {g : Automaton} (f : ℕ → Bool) → Closed g → ((q a : ℕ) → q < g .states → a < g .symbols → f q ≡ true → f (g .next q a) ≡ true)
+    → (q : ℕ) (w : List ℕ) → q < g .states → Trace g w → f q ≡ true → f (run g q w) ≡ true
+unfolding Trace run
+lasts f c kept q [] l t e = e
+lasts {g} f c kept q (a ∷ w) l t e = lasts f c kept (g .next q a) w (c .next-in q a l (t .0)) (t .1) (kept q a l (t .0) e)
+
 pub run-append : (g : Automaton) (q : ℕ) (v w : List ℕ) → run g q (v ++ w) ≡ run g (run g q v) w
 unfolding run
 run-append g q [] w = refl

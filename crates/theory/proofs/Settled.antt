@@ -10,12 +10,15 @@ use lib.Dec.{eqb}
 use lib.ListN.{length}
 use borrow.Author.Tests.{eqb-true, eq-eqb, ltb-true}
 use Rattle.theory.specs.Below.{any, every, count}
-use Rattle.theory.specs.Automaton.{Automaton, Trace, run, boundWithin, bound, leads}
-use Rattle.theory.specs.Monitor.{Monitor, WellFormed, marked, classFrom, class, weak, reached, uglyReached, monitorability, statesReached}
+use Rattle.theory.specs.Automaton.{Automaton, Trace, run, inevitableWithin, inevitable, leads}
+use Rattle.theory.specs.Monitor.{Monitor, WellFormed, Finds, marked, classFrom, class, weak, reached, uglyReached, monitorability, statesReached}
 use Rattle.theory.specs.Settled.{Settles, CountsAs, as-drawn, settled-true, settled-false, not-yet, settledFrom, settledMark, Becomes}
 use Rattle.theory.proofs.Below.{clash, not-clash, both-ways, or-cases, any-at, any-same, every-at, count-any}
-use Rattle.theory.proofs.Reach.{Hits, run-in, run-append, trace-append, leads-sound, leads-complete}
-use Rattle.theory.proofs.Bound.{long-trace, bound-here, bound-step, bound-enough, bound-short, bound-sound, bound-complete}
+use Rattle.theory.proofs.Reach.{Hits, run-in, lasts, run-append, trace-append, leads-sound, leads-complete}
+use Rattle.theory.proofs.Count.{verdict-stays}
+use Rattle.theory.proofs.Exact.{found, sought}
+use Rattle.theory.proofs.Inevitable.{long-trace, inevitable-here, inevitable-step, inevitable-enough, inevitable-short}
+use Rattle.theory.proofs.Inevitable.{inevitable-sound, inevitable-complete}
 
 module _ {limit : ℕ} {m : Monitor} (h : WellFormed limit m) where
   abbrev g : Automaton
@@ -23,58 +26,48 @@ module _ {limit : ℕ} {m : Monitor} (h : WellFormed limit m) where
 
   -- the mark v is settled at q: for some number, every series of that length leads to it
   abbrev pub Sure : ℕ → ℕ → Type 0
-  Sure v q = bound g (marked m v) q ≡ true
+  Sure v q = inevitable g (marked m v) q ≡ true
 
   module _ (v : ℕ) (p : 0 < v) where
-    kept : (q a : ℕ) → q < g .states → a < g .symbols → marked m v q ≡ true → marked m v (g .next q a) ≡ true
-    kept q a l s e =
-        let is = eqb-true (m .verdict q) v e in
-        eq-eqb (m .verdict (g .next q a)) v (h .verdict-kept q a l s (omega (arith, p, is)) ∙ is)
-
     -- after so many symbols as are enough
-    sure-ends : (r q : ℕ) → q < g .states → boundWithin g (marked m v) r q ≡ true → (w : List ℕ) → Trace g w → length w ≡ r → m .verdict (run g q w) ≡ v
-    sure-ends r q l e w t s = eqb-true (m .verdict (run g q w)) v (bound-sound g (marked m v) (h .closed) kept r q l e w t s)
+    sure-ends : (r q : ℕ) → q < g .states → inevitableWithin g (marked m v) r q ≡ true → (w : List ℕ) → Trace g w → length w ≡ r → m .verdict (run g q w) ≡ v
+    sure-ends r q l e w t s = eqb-true (m .verdict (run g q w)) v (inevitable-sound g (marked m v) (h .closed) (λ q a. verdict-stays h v q a p) r q l e w t s)
 
     pub sure-settles : (q : ℕ) → q < g .states → Sure v q → Settles g (m .verdict) v q
-    unfolding bound
-    sure-settles q l e = record { number = g .states; leads = sure-ends (g .states) q l e }
+    sure-settles q l e = record { number = g .states; ends = sure-ends (g .states) q l e }
 
     pub settles-sure : (q : ℕ) → q < g .states → Settles g (m .verdict) v q → Sure v q
     settles-sure q l s =
-        bound-enough g (marked m v) (h .closed) (s .number) q l
-        (bound-complete g (marked m v) (s .number) q (λ w t e. eq-eqb (m .verdict (run g q w)) v (s .leads w t e)))
+        inevitable-enough g (marked m v) (h .closed) (s .number) q l
+        (inevitable-complete g (marked m v) (s .number) q (λ w t e. eq-eqb (m .verdict (run g q w)) v (s .ends w t e)))
 
     pub sure-here : (q : ℕ) → q < g .states → m .verdict q ≡ v → Sure v q
-    unfolding bound
-    sure-here q l e = bound-here g (marked m v) (g .states) q (eq-eqb (m .verdict q) v e)
+    sure-here q l e = inevitable-here g (marked m v) (g .states) q (eq-eqb (m .verdict q) v e)
 
     -- where it is settled at every next state
     pub sure-before : (q : ℕ) → q < g .states → ((a : ℕ) → a < g .symbols → Sure v (g .next q a)) → Sure v q
-    unfolding bound
-    sure-before q l e = bound-enough g (marked m v) (h .closed) (suc (g .states)) q l (bound-step g (marked m v) (g .states) q e)
+    sure-before q l e = inevitable-enough g (marked m v) (h .closed) (suc (g .states)) q l (inevitable-step g (marked m v) (g .states) q e)
 
     sure-next : (q a : ℕ) → q < g .states → a < g .symbols → Sure v q → Sure v (g .next q a)
     unfolding Trace run
-    sure-next q a l s e = go (sure-settles q l e .number) (sure-settles q l e .leads)
+    sure-next q a l s e = go (sure-settles q l e .number) (sure-settles q l e .ends)
       where
         inside : g .next q a < g .states
         inside = h .closed .next-in q a l s
 
         go : (r : ℕ) → ((w : List ℕ) → Trace g w → length w ≡ r → m .verdict (run g q w) ≡ v) → Sure v (g .next q a)
         go zero f = sure-here (g .next q a) inside (let is = f [] tt refl in h .verdict-kept q a l s (omega (arith, p, is)) ∙ is)
-        go (suc r) f = settles-sure (g .next q a) inside (record { number = r; leads = λ w t e. f (a ∷ w) (s, t) (ap suc e) })
+        go (suc r) f = settles-sure (g .next q a) inside (record { number = r; ends = λ w t e. f (a ∷ w) (s, t) (ap suc e) })
 
     sure-along : (q : ℕ) (w : List ℕ) → q < g .states → Trace g w → Sure v q → Sure v (run g q w)
-    unfolding Trace run
-    sure-along q [] l t e = e
-    sure-along q (a ∷ w) l t e = sure-along (g .next q a) w (h .closed .next-in q a l (t .0)) (t .1) (sure-next q a l (t .0) e)
+    sure-along = lasts (inevitable g (marked m v)) (h .closed) sure-next
 
     -- it is found
     sure-found : (q : ℕ) → q < g .states → Sure v q → Hits g (marked m v) q
     sure-found q l e =
         let s = sure-settles q l e in
         let t = long-trace g (h .symbols-least) (s .number) in
-        record { word = t .word; trace = t .trace; passes = eq-eqb (m .verdict (run g q (t .word))) v (s .leads (t .word) (t .trace) (t .long)) }
+        record { word = t .word; trace = t .trace; passes = eq-eqb (m .verdict (run g q (t .word))) v (s .ends (t .word) (t .trace) (t .long)) }
 
     -- the number is below that of the states
     pub settles-early : (q : ℕ) → q < g .states → Settles g (m .verdict) v q → (s : Settles g (m .verdict) v q) × (s .number < g .states)
@@ -85,13 +78,12 @@ module _ {limit : ℕ} {m : Monitor} (h : WellFormed limit m) where
         ltb-true 0 (count (g .states) (marked m v))
         (count-any (g .states) (marked m v) ∙ any-at (g .states) (marked m v) _ (run-in (h .closed) q (f .word) l (f .trace)) (f .passes)) in
         let r = g .states - 1 in (
-          record { number = r; leads = sure-ends r q l (bound-short g (marked m v) (h .closed) r q l (omega (arith, some, l)) e) },
+          record { number = r; ends = sure-ends r q l (inevitable-short g (marked m v) (h .closed) r q l (omega (arith, some, l)) e) },
           omega (arith, l),
         )
 
   -- two marks are not settled at one state
   pub sure-one : (v u q : ℕ) → 0 < v → 0 < u → q < g .states → Sure v q → Sure u q → v ≡ u
-  unfolding bound
   sure-one v u q pv pu l e f =
       let t = long-trace g (h .symbols-least) (g .states) in
       sym (sure-ends v pv (g .states) q l e (t .word) (t .trace) (t .long)) ∙ sure-ends u pu (g .states) q l f (t .word) (t .trace) (t .long)
@@ -106,9 +98,10 @@ module _ {limit : ℕ} {m : Monitor} (h : WellFormed limit m) where
     -- it is true or false exactly where that is settled
     pub mark-sure : (v : ℕ) → 0 < v → mark q ≡ v → Sure v q
     unfolding settledMark
-    mark-sure v p = go (m .verdict q) refl (bound g (marked m 1) q) refl (bound g (marked m 2) q) refl
+    mark-sure v p = go (m .verdict q) refl (inevitable g (marked m 1) q) refl (inevitable g (marked m 2) q) refl
       where
-        go : (d : ℕ) → m .verdict q ≡ d → (t : Bool) → bound g (marked m 1) q ≡ t → (f : Bool) → bound g (marked m 2) q ≡ f → settledFrom d t f ≡ v → Sure v q
+        go : (d : ℕ) → m .verdict q ≡ d → (t : Bool) → inevitable g (marked m 1) q ≡ t → (f : Bool) → inevitable g (marked m 2) q ≡ f
+            → settledFrom d t f ≡ v → Sure v q
         go zero d true t f e i = subst (λ (u : ℕ). Sure u q) i t
         go zero d false t true e i = subst (λ (u : ℕ). Sure u q) i e
         go zero d false t false e i = absurd (omega (arith, p, i))
@@ -116,9 +109,9 @@ module _ {limit : ℕ} {m : Monitor} (h : WellFormed limit m) where
 
     pub sure-mark : (v : ℕ) → 0 < v → v ≤ 2 → Sure v q → mark q ≡ v
     unfolding settledMark
-    sure-mark v p s x = go (m .verdict q) refl (bound g (marked m 1) q) refl (bound g (marked m 2) q) refl
+    sure-mark v p s x = go (m .verdict q) refl (inevitable g (marked m 1) q) refl (inevitable g (marked m 2) q) refl
       where
-        go : (d : ℕ) → m .verdict q ≡ d → (t : Bool) → bound g (marked m 1) q ≡ t → (f : Bool) → bound g (marked m 2) q ≡ f → settledFrom d t f ≡ v
+        go : (d : ℕ) → m .verdict q ≡ d → (t : Bool) → inevitable g (marked m 1) q ≡ t → (f : Bool) → inevitable g (marked m 2) q ≡ f → settledFrom d t f ≡ v
         go zero d true t f e = sure-one 1 v q (omega arith) p l t x
         go zero d false t true e = sure-one 2 v q (omega arith) p l e x
         go zero d false t false e = absurd (either v p s x)
@@ -132,7 +125,7 @@ module _ {limit : ℕ} {m : Monitor} (h : WellFormed limit m) where
 
     pub mark-in : mark q ≤ 2
     unfolding settledMark
-    mark-in = go (m .verdict q) (h .verdict-in q l) (bound g (marked m 1) q) (bound g (marked m 2) q)
+    mark-in = go (m .verdict q) (h .verdict-in q l) (inevitable g (marked m 1) q) (inevitable g (marked m 2) q)
       where
         go : (d : ℕ) → d ≤ 2 → (t f : Bool) → settledFrom d t f ≤ 2
         go zero s true f = omega arith
@@ -146,7 +139,7 @@ module _ {limit : ℕ} {m : Monitor} (h : WellFormed limit m) where
 
     counts-as : CountsAs g (m .verdict) q (mark q)
     unfolding settledMark
-    counts-as = go (m .verdict q) refl (bound g (marked m 1) q) refl (bound g (marked m 2) q) refl
+    counts-as = go (m .verdict q) refl (inevitable g (marked m 1) q) refl (inevitable g (marked m 2) q) refl
       where
         one : 0 < 1
         one = omega arith
@@ -154,7 +147,7 @@ module _ {limit : ℕ} {m : Monitor} (h : WellFormed limit m) where
         two : 0 < 2
         two = omega arith
 
-        go : (d : ℕ) → m .verdict q ≡ d → (t : Bool) → bound g (marked m 1) q ≡ t → (f : Bool) → bound g (marked m 2) q ≡ f
+        go : (d : ℕ) → m .verdict q ≡ d → (t : Bool) → inevitable g (marked m 1) q ≡ t → (f : Bool) → inevitable g (marked m 2) q ≡ f
             → CountsAs g (m .verdict) q (settledFrom d t f)
         go zero d true t f e = settled-true d (sure-settles 1 one q l t)
         go zero d false t true e = settled-false d (sure-settles 2 two q l e)
@@ -169,8 +162,8 @@ module _ {limit : ℕ} {m : Monitor} (h : WellFormed limit m) where
     counts-only (not-yet d t f) =
         rw (
           d,
-          not-clash {b = bound g (marked m 1) q} (λ e. t (sure-settles 1 (omega arith) q l e)),
-          not-clash {b = bound g (marked m 2) q} (λ e. f (sure-settles 2 (omega arith) q l e)),
+          not-clash {b = inevitable g (marked m 1) q} (λ e. t (sure-settles 1 (omega arith) q l e)),
+          not-clash {b = inevitable g (marked m 2) q} (λ e. f (sure-settles 2 (omega arith) q l e)),
         )
 
     -- every mark counts as exactly one, and it is `settledMark`
@@ -208,17 +201,16 @@ module _ {limit : ℕ} {m : Monitor} (h : WellFormed limit m) (settled : ℕ →
   }
 
   -- settling twice is settling once
-  again : (v r q : ℕ) → 0 < v → q < m .automaton .states → boundWithin (m .automaton) (marked s v) r q ≡ true → Sure h v q
-  unfolding boundWithin
+  again : (v r q : ℕ) → 0 < v → q < m .automaton .states → inevitableWithin (m .automaton) (marked s v) r q ≡ true → Sure h v q
+  unfolding inevitableWithin
   again v zero q p l e = settled-sure v q p l (eqb-true (settled q) v e)
   again v (suc r) q p l e =
       ⊎-elim (λ i. settled-sure v q p l (eqb-true (settled q) v i))
       (λ i. sure-before h v p q l (λ a j. again v r (m .automaton .next q a) p (h .closed .next-in q a l j)
-      (every-at (m .automaton .symbols) (λ a. boundWithin (m .automaton) (marked s v) r (m .automaton .next q a)) i a j)))
-      (or-cases (marked s v q) (every (m .automaton .symbols) (λ a. boundWithin (m .automaton) (marked s v) r (m .automaton .next q a))) e)
+      (every-at (m .automaton .symbols) (λ a. inevitableWithin (m .automaton) (marked s v) r (m .automaton .next q a)) i a j)))
+      (or-cases (marked s v q) (every (m .automaton .symbols) (λ a. inevitableWithin (m .automaton) (marked s v) r (m .automaton .next q a))) e)
 
   pub settled-twice : (q : ℕ) → q < m .automaton .states → settledMark (m .automaton) settled q ≡ settled q
-  unfolding bound
   settled-twice q l = go (settledMark (m .automaton) settled q) refl
     where
       go : (v : ℕ) → settledMark (m .automaton) settled q ≡ v → v ≡ settled q
@@ -232,7 +224,7 @@ module _ {limit : ℕ} {m : Monitor} (h : WellFormed limit m) (settled : ℕ →
           let i = mark-in settled-well-formed q l in
           sym (sure-settled (suc v) q p (omega (arith, i, e)) l (again (suc v) (m .automaton .states) q p l (mark-sure settled-well-formed q l (suc v) p e)))
 
-  -- ---- what can be found stays, and so do monitorability and the states reached; a class changes from positive to good or from negative to bad
+  -- ---- what can be found stays, monitorability and the states reached with it; a class changes from positive to good or from negative to bad
 
   leads-settled : (v q : ℕ) → 0 < v → v ≤ 2 → q < m .automaton .states → leads (m .automaton) (marked s v) q ≡ leads (m .automaton) (marked m v) q
   leads-settled v q p i l =
@@ -255,6 +247,12 @@ module _ {limit : ℕ} {m : Monitor} (h : WellFormed limit m) (settled : ℕ →
         trace = f .trace;
         passes = eq-eqb (settled at) v (sure-settled v at p i inside (sure-here h v p at inside (eqb-true (m .verdict at) v (f .passes))));
       })))
+
+  -- what can be found stays
+  pub finds-settled : (v q : ℕ) → 0 < v → v ≤ 2 → q < m .automaton .states → Finds m v q ↔ Finds s v q
+  finds-settled v q p i l =
+      let same = leads-settled v q p i l in
+      (λ f. found settled-well-formed v q (same ∙ sought h v q l f), λ f. found h v q (sym same ∙ sought settled-well-formed v q l f))
 
   sure-leads : (v q : ℕ) → 0 < v → q < m .automaton .states → Sure h v q → leads (m .automaton) (marked m v) q ≡ true
   sure-leads v q p l e = leads-complete (m .automaton) (marked m v) (h .closed) q l (sure-found h v p q l e)

@@ -42,14 +42,14 @@ within g f (suc r) q = f q || any (g .symbols) (λ a. within g f r (g .next q a)
 unfoldable pub leads : Automaton → (ℕ → Bool) → ℕ → Bool
 leads g f q = within g f (g .states) q
 
--- every trace of r symbols leads from q to a state that passes the test, or past one
-unfoldable pub boundWithin : Automaton → (ℕ → Bool) → ℕ → ℕ → Bool
-boundWithin g f zero q = f q
-boundWithin g f (suc r) q = f q || every (g .symbols) (λ a. boundWithin g f r (g .next q a))
+-- every trace of r symbols leads from q to or through a state that passes the test
+unfoldable pub inevitableWithin : Automaton → (ℕ → Bool) → ℕ → ℕ → Bool
+inevitableWithin g f zero q = f q
+inevitableWithin g f (suc r) q = f q || every (g .symbols) (λ a. inevitableWithin g f r (g .next q a))
 
--- every trace of some length does: with n states, n symbols are enough (proofs/Bound.antt)
-unfoldable pub bound : Automaton → (ℕ → Bool) → ℕ → Bool
-bound g f q = boundWithin g f (g .states) q
+-- every trace of some length does: with n states, n symbols are enough (proofs/Inevitable.antt)
+abbrev pub inevitable : Automaton → (ℕ → Bool) → ℕ → Bool
+inevitable g f q = inevitableWithin g f (g .states) q
 
 -- p can be reached from q, as a test of p
 abbrev pub reachedFrom : Automaton → ℕ → ℕ → Bool

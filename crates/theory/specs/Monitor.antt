@@ -11,7 +11,7 @@ use lib.ListN.{getD}
 use Rattle.theory.specs.Below.{any, count}
 use Rattle.theory.specs.Automaton.{Automaton, Closed, Reaches, leads, reachedFrom}
 
--- an automaton with a start and a verdict at each state: 0 not yet, 1 true, 2 false; of a table it is the settled mark
+-- an automaton with a start and a verdict at each state: 0 not yet, 1 true, 2 false
 pub record Monitor : Type 0 where
   pub automaton : Automaton
   pub start : ℕ

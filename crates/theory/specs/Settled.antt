@@ -7,13 +7,13 @@ use mathlib.Core.Logic.{_⊎_}
 use Prim.Native.Nat.{ℕ, zero, suc, _<_}
 use lib.Dec.{eqb}
 use lib.ListN.{length}
-use Rattle.theory.specs.Automaton.{Automaton, Trace, run, bound}
+use Rattle.theory.specs.Automaton.{Automaton, Trace, run, inevitable}
 
 module _ (g : Automaton) (drawn : ℕ → ℕ) where
   -- "for some number, every message series of that length leads from it to a true mark; false likewise": from q to v
   pub record Settles (v q : ℕ) : Type 0 where
     pub number : ℕ
-    pub leads : (w : List ℕ) → Trace g w → length w ≡ number → drawn (run g q w) ≡ v
+    pub ends : (w : List ℕ) → Trace g w → length w ≡ number → drawn (run g q w) ≡ v
 
   -- "a not-yet state counts as true if [..]; false likewise": what the mark of q counts as
   pub data CountsAs (q : ℕ) : ℕ → Type 0 where
@@ -29,13 +29,10 @@ settledFrom zero false true = 2
 settledFrom zero false false = 0
 settledFrom (suc v) t f = suc v
 
--- state q is drawn with the mark v
-abbrev pub drawnAs : (ℕ → ℕ) → ℕ → ℕ → Bool
-drawnAs drawn v q = eqb (drawn q) v
-
 -- what the mark of q counts as
 unfoldable pub settledMark : Automaton → (ℕ → ℕ) → ℕ → ℕ
-settledMark g drawn q = settledFrom (drawn q) (bound g (drawnAs drawn 1) q) (bound g (drawnAs drawn 2) q)
+settledMark g drawn q =
+    settledFrom (drawn q) (inevitable g (λ p. eqb (drawn p) 1) q) (inevitable g (λ p. eqb (drawn p) 2) q)
 
 -- what a class may become by settling: itself; from positive, good; from negative, bad
 abbrev pub Becomes : ℕ → ℕ → Type 0

@@ -7,10 +7,10 @@ use Rattle.drawing.proofs.settled.write_verdicts.Statement.{statement}
 use Rattle.drawing.proofs.settled.write_verdicts.Tie as tie
 
 abbrev Inv-loop : tie.InvT-loop
-Inv-loop marks classes verdicts₀ n q₀ verdicts q = length verdicts ≡ length verdicts₀
+Inv-loop drawn classes verdicts₀ n q₀ verdicts q = length verdicts ≡ length verdicts₀
 
 abbrev μ-loop : tie.MeasureT-loop
-μ-loop marks classes verdicts₀ n q₀ verdicts q = n - q
+μ-loop drawn classes verdicts₀ n q₀ verdicts q = n - q
 
 pub write-verdicts-spec : {M : Type 1} → statement M
 write-verdicts-spec =
