@@ -99,9 +99,9 @@ RULES[35] = table("hold go abort", {
 })
 
 # Three messages of any kind. What they are does not count, so true is settled from the start: the rule is immune, although it is drawn not yet for
-# three messages. A rule that no corruption harms depends on the number of messages alone, so a verdict that it can find is settled at the start and
-# no other fault harms it: every rule that is harmed at all is harmed by corruption. It is harmed by loss as well, since losses lead from every trace
-# to the empty one.
+# three messages. A rule that no corruption harms depends on the number of messages alone, so a verdict that it can find is settled at the start,
+# and where it can find none it reads alike for ever. Either way no other fault harms it: every rule that is harmed at all is harmed by corruption.
+# It is harmed by loss as well, since losses lead from every trace to the empty one.
 RULES[40] = table("low high", {
     "none": (NOT_YET, "one"),
     "one": (NOT_YET, "two"),
