@@ -15,7 +15,7 @@ SAMPLE = (ROOT / "samples/sample.collection").read_bytes()
 
 # What a call of each program prints first.
 CALLS = {"listing": "rule states class loss corruption repeat swap\n3 2 pos 1 1 - -\n", "card 31": "rule 31: pos (",
-         "ask collection": "accepted 15\n", "pack --help": "pack writes a collection to standard output"}
+         "ask collection": "accepted 16\n", "pack --help": "pack writes a collection to standard output"}
 
 # What each command needs, and where a user gets it.
 KIT = "rt", "it is the command of the Rattle kit"
