@@ -53,26 +53,30 @@ fn sizes() {
 
 // A body of n states and k symbols whose marks and next states are 0, and what stands behind it up to the greatest
 // length.
-fn blank(n: u8, k: u8) -> [u8; 1091]
-    ensures { λ r. ⌜ length r ≡ 1091 ⌝ }
+fn blank(n: u8, k: u8) -> [u8; 2179]
+    ensures { λ r. ⌜ length r ≡ 2179 ⌝ }
 {
-    let mut body = [0u8; 1091];
+    let mut body = [0u8; 2179];
     body[0] = n;
     body[1] = k;
     body
 }
 
 fn limits() {
-    let few = blank(64, 1);
-    judge(b"n = 64: ", &few[0..131]);
-    let many = blank(65, 1);
-    judge(b"n = 65: ", &many[0..133]);
+    let one_word = blank(64, 1);
+    judge(b"n = 64: ", &one_word[0..131]);
+    let two_words = blank(65, 1);
+    judge(b"n = 65: ", &two_words[0..133]);
+    let most = blank(128, 1);
+    judge(b"n = 128: ", &most[0..259]);
+    let many = blank(129, 1);
+    judge(b"n = 129: ", &many[0..261]);
     let narrow = blank(1, 16);
     judge(b"k = 16: ", &narrow[0..20]);
     let wide = blank(1, 17);
     judge(b"k = 17: ", &wide[0..21]);
-    let largest = blank(64, 16);
-    judge(b"1091 bytes: ", &largest);
+    let largest = blank(128, 16);
+    judge(b"2179 bytes: ", &largest);
 }
 
 // Questions 6 to 8 and their places.

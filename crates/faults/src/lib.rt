@@ -1,6 +1,5 @@
 // Fault sets, fault steps, and the cheapest fault step at a state.
 use pairs::NEVER;
-use theory::SQUARE_SIZE;
 use theory::STATE_LIMIT;
 ghost use mathlib.Core.Path.{_≡_};
 ghost use mathlib.Core.List.{_∷_};
@@ -14,7 +13,7 @@ ghost use Rattle.theory.specs.Automaton.{run};
 ghost use Rattle.theory.specs.Monitor.{stateLimit, symbolLimit};
 ghost use Rattle.theory.specs.Faults.{kinds, allFaults, stepOf, seconds, holds, stepsOfKind, steps};
 ghost use Rattle.monitor.specs.Format.{Rows, graph};
-ghost use Rattle.pairs.specs.Square.{never};
+ghost use Rattle.pairs.specs.Square.{never, HasRows};
 ghost use Rattle.faults.specs.Kinds.{rankOf, bitOf};
 ghost use Rattle.faults.specs.Steps.{traceOf, stepFor, Inside, Ranged, costOf, costing, Cheapest, Costs};
 ghost use Rattle.faults.specs.Rest.{stepsFrom, stepsIfHeld, stepsOnward, Placed, stepAt, rest};
@@ -308,17 +307,11 @@ pub fn write_symbols(symbols: Symbols, area: &mut [u8], at: usize)
 }
 
 // The cost of a fault at p: no more than NEVER.
-fn cost_of(
-    square: &[u16; SQUARE_SIZE],
-    nexts: &[u8],
-    n: usize,
-    k: usize,
-    p: usize,
-    fault: Fault,
-) -> usize
+fn cost_of(square: &[u16], nexts: &[u8], n: usize, k: usize, p: usize, fault: Fault) -> usize
     requires { ⌜ Rows stateLimit n k (now nexts) ⌝ }
     requires { ⌜ p < n ⌝ }
     requires { ⌜ Ranged k fault ⌝ }
+    requires { ⌜ HasRows n (now square) ⌝ }
     ensures { λ r. ⌜ r ≡ costOf (graph n k (nexts .entry)) (now (square .entry)) p (stepFor fault) ⌝ }
 {
     let x = after(nexts, n, k, p, fault.sent);
@@ -328,7 +321,7 @@ fn cost_of(
 
 // What the cheapest fault of a kind at p with the given first symbol costs.
 fn cost_from(
-    square: &[u16; SQUARE_SIZE],
+    square: &[u16],
     nexts: &[u8],
     n: usize,
     k: usize,
@@ -339,6 +332,7 @@ fn cost_from(
     requires { ⌜ Rows stateLimit n k (now nexts) ⌝ }
     requires { ⌜ p < n ⌝ }
     requires { ⌜ first < k ⌝ }
+    requires { ⌜ HasRows n (now square) ⌝ }
     ensures { λ r. ⌜ Cheapest (graph n k (nexts .entry)) (now (square .entry)) p (stepsFrom k (rankOf kind) first) r ⌝ }
 {
     let count = seconds_of(kind, k);
@@ -353,16 +347,10 @@ fn cost_from(
 }
 
 // What the cheapest fault of a kind at p costs.
-fn cost_of_kind(
-    square: &[u16; SQUARE_SIZE],
-    nexts: &[u8],
-    n: usize,
-    k: usize,
-    p: usize,
-    kind: Kind,
-) -> usize
+fn cost_of_kind(square: &[u16], nexts: &[u8], n: usize, k: usize, p: usize, kind: Kind) -> usize
     requires { ⌜ Rows stateLimit n k (now nexts) ⌝ }
     requires { ⌜ p < n ⌝ }
+    requires { ⌜ HasRows n (now square) ⌝ }
     ensures { λ r. ⌜ Cheapest (graph n k (nexts .entry)) (now (square .entry)) p (stepsOfKind k (rankOf kind)) r ⌝ }
 {
     let mut least = NEVER;
@@ -376,7 +364,7 @@ fn cost_of_kind(
 
 // The same where the set has the kind, else NEVER.
 fn cost_if_held(
-    square: &[u16; SQUARE_SIZE],
+    square: &[u16],
     nexts: &[u8],
     n: usize,
     k: usize,
@@ -387,6 +375,7 @@ fn cost_if_held(
     requires { ⌜ Rows stateLimit n k (now nexts) ⌝ }
     requires { ⌜ p < n ⌝ }
     requires { ⌜ rank < kinds ⌝ }
+    requires { ⌜ HasRows n (now square) ⌝ }
     ensures { λ r. ⌜ Cheapest (graph n k (nexts .entry)) (now (square .entry)) p (stepsIfHeld (set .bits) k rank) r ⌝ }
 {
     if set.has(rank) {
@@ -396,16 +385,10 @@ fn cost_if_held(
 }
 
 // What the cheapest fault of the set costs at p.
-fn cost_at(
-    square: &[u16; SQUARE_SIZE],
-    nexts: &[u8],
-    n: usize,
-    k: usize,
-    set: FaultSet,
-    p: usize,
-) -> usize
+fn cost_at(square: &[u16], nexts: &[u8], n: usize, k: usize, set: FaultSet, p: usize) -> usize
     requires { ⌜ Rows stateLimit n k (now nexts) ⌝ }
     requires { ⌜ p < n ⌝ }
+    requires { ⌜ HasRows n (now square) ⌝ }
     ensures { λ r. ⌜ Cheapest (graph n k (nexts .entry)) (now (square .entry)) p (steps (set .bits) k) r ⌝ }
 {
     let mut least = NEVER;
@@ -419,13 +402,14 @@ fn cost_at(
 
 // What the cheapest fault of the set costs at every state.
 pub fn costs(
-    square: &[u16; SQUARE_SIZE],
+    square: &[u16],
     nexts: &[u8],
     n: usize,
     k: usize,
     set: FaultSet,
 ) -> [usize; STATE_LIMIT]
     requires { ⌜ Rows stateLimit n k (now nexts) ⌝ }
+    requires { ⌜ HasRows n (now square) ⌝ }
     ensures { λ r. ⌜ Costs (graph n k (nexts .entry)) (now (square .entry)) (steps (set .bits) k) n r ⌝ }
 {
     let mut costs = [NEVER; STATE_LIMIT];
@@ -439,7 +423,7 @@ pub fn costs(
 
 // The first fault of the set, in the written order, that costs what the cheapest at p does.
 pub fn fault_with(
-    square: &[u16; SQUARE_SIZE],
+    square: &[u16],
     nexts: &[u8],
     n: usize,
     k: usize,
@@ -451,6 +435,7 @@ pub fn fault_with(
     requires { ⌜ p < n ⌝ }
     requires { ⌜ cost < never ⌝ }
     requires { ⌜ Cheapest (graph n k nexts) (now square) p (steps (set .bits) k) cost ⌝ }
+    requires { ⌜ HasRows n (now square) ⌝ }
     ensures first { λ r. ⌜ find (costing (graph n k (nexts .entry)) (now (square .entry)) p cost) (steps (set .bits) k)
         ≡ some (stepFor r) ⌝ }
     ensures ranged { λ r. ⌜ Ranged k r ⌝ }

@@ -4,8 +4,8 @@ use faults::FaultSet;
 use faults::KINDS;
 use monitor::Shape;
 use opening::Opened;
+use pairs::FEW;
 use pairs::Test;
-use theory::SQUARE_SIZE;
 use theory::STATE_LIMIT;
 use witness::Outcome;
 use witness::WITNESS_ROOM;
@@ -23,6 +23,7 @@ ghost use Rattle.basics.specs.Refusals.{refusal};
 ghost use Rattle.monitor.specs.Opening.{monitorIn, TableIn};
 ghost use Rattle.pairs.specs.declared.Test.the-variants.{Differ};
 ghost use Rattle.pairs.specs.Square.{Squared, passing};
+ghost use Rattle.pairs.specs.Layers.{Blank};
 ghost use Rattle.witness.specs.Figures.{outcome};
 ghost use Rattle.witness.specs.Search.{automatonIn};
 ghost use Rattle.immunity.specs.Findings.{faultAnswer, faultTrace, finding};
@@ -88,7 +89,7 @@ fn scratch() -> [u8; WITNESS_ROOM]
 // The column of a rank: its fault alone, by marks. The sent trace of a witness stays in the area.
 fn column_of(
     marks: &[u8],
-    square: &[u16; SQUARE_SIZE],
+    square: &[u16],
     nexts: &[u8],
     t: Shape,
     rank: usize,
@@ -110,7 +111,7 @@ fn column_of(
 }
 
 // The columns of a table: each fault alone, in the written order, all from one square.
-fn columns_of(marks: &[u8], square: &[u16; SQUARE_SIZE], nexts: &[u8], t: Shape) -> [Column; KINDS]
+fn columns_of(marks: &[u8], square: &[u16], nexts: &[u8], t: Shape) -> [Column; KINDS]
     requires { ⌜ TableIn t marks nexts
         × Squared (automatonIn t (now nexts)) (passing Differ (now marks)) (now square) ⌝ }
     ensures { λ r. ⌜ found r ≡ cardAsking [] (monitorIn t (marks .entry) (nexts .entry)) .columns ⌝ }
@@ -127,6 +128,29 @@ fn columns_of(marks: &[u8], square: &[u16; SQUARE_SIZE], nexts: &[u8], t: Shape)
     columns
 }
 
+// The columns of a table, with a square that is filled.
+fn columns_in(square: &mut [u16], marks: &[u8], nexts: &[u8], t: Shape) -> [Column; KINDS]
+    requires { ⌜ TableIn t marks nexts
+        × Blank (t .states) (now square) ⌝ }
+    ensures { λ r. ⌜ found r ≡ cardAsking [] (monitorIn t (marks .entry) (nexts .entry)) .columns ⌝ }
+{
+    pairs::enter_distances(square, nexts, t.states, t.symbols, marks, Test::Differ);
+    columns_of(marks, square, nexts, t)
+}
+
+// The same: the square has as many rows as the table needs, few or all.
+fn all_columns(marks: &[u8], nexts: &[u8], t: Shape) -> [Column; KINDS]
+    requires { ⌜ TableIn t marks nexts ⌝ }
+    ensures { λ r. ⌜ found r ≡ cardAsking [] (monitorIn t (marks .entry) (nexts .entry)) .columns ⌝ }
+{
+    if t.states <= FEW {
+        let mut square = pairs::blank_few();
+        return columns_in(&mut square, marks, nexts, t);
+    }
+    let mut square = pairs::blank();
+    columns_in(&mut square, marks, nexts, t)
+}
+
 // The card of an opened table.
 fn card_of(marks: &[u8], nexts: &[u8], t: Shape) -> LinkCard
     requires { ⌜ TableIn t marks nexts ⌝ }
@@ -136,9 +160,7 @@ fn card_of(marks: &[u8], nexts: &[u8], t: Shape) -> LinkCard
         states: t.states,
         monitorability: classes::monitorability_of(marks, nexts, t),
     };
-    let mut square = pairs::blank();
-    pairs::enter_distances(&mut square, nexts, t.states, t.symbols, marks, Test::Differ);
-    let columns = columns_of(marks, &square, nexts, t);
+    let columns = all_columns(marks, nexts, t);
     LinkCard { summary, columns }
 }
 

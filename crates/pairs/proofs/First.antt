@@ -13,14 +13,15 @@ use borrow.Author.Tests.{eq-eqb, ne-eqb, lt-ltb, le-ltb, ltb-true}
 use Rattle.theory.specs.Monitor.{stateLimit}
 use Rattle.theory.specs.Pairs.{told}
 use Rattle.theory.proofs.Below.{clash, lt-or-le, same-or-not, or-right, and-left}
+use Rattle.state_set.specs.Member.{setAt, Put}
 use Rattle.pairs.specs.declared.Position.{Position}
 use Rattle.pairs.specs.declared.Test.{Test}
 use Rattle.pairs.specs.declared.Test.the-variants.{Differ, Misread}
-use Rattle.pairs.specs.Square.{never, squareSize, place, entry, passes, passing, apartAtOnce}
+use Rattle.pairs.specs.Square.{never, place, HasRows, entry, passes, passing, apartAtOnce}
 use Rattle.pairs.specs.Pass.{start, next, pair}
-use Rattle.pairs.specs.Layers.{setAt, Put, Entered, Layer, Blank, Begun, PairBegun, RowDone}
+use Rattle.pairs.specs.Layers.{Empty, Entered, Layer, Blank, Begun, PairBegun, RowDone}
 use Rattle.pairs.proofs.Pass.{row-is, column-is, On, on-start, on-next, on-over, on-numbered, on-row, on-column}
-use Rattle.pairs.proofs.Gather.{empty-at, entered-one}
+use Rattle.pairs.proofs.Gather.{entered-one}
 use Rattle.pairs.proofs.Layers.{kept-rows}
 
 -- an entry of 0 or never is 0 where the test says so
@@ -28,30 +29,33 @@ zero-where : (c : Bool) → eqb (cond c 0 never) 0 ≡ c
 zero-where true = refl
 zero-where false = refl
 
-pub blank-filled : Blank (replicate squareSize never)
-blank-filled = record { size = length-replicate {A = ℕ} squareSize never; filled = λ i l. getD-replicate {A = ℕ} squareSize i never 0 l }
+pub blank-filled : {n size : ℕ} → n * stateLimit ≤ size → Blank n (replicate size never)
+blank-filled {n} {size} room = record {
+  size = rw (length-replicate {A = ℕ} size never) room;
+  filled = λ i l. getD-replicate {A = ℕ} size i never 0 (rw (length-replicate {A = ℕ} size never) at l);
+}
 
-pub begun-none : {test : Test} {outs square : List ℕ} → length outs ≤ stateLimit → Blank square
-    → Begun test outs 0 0 square (replicate stateLimit 0) (replicate stateLimit 0) (λ q. false)
-begun-none {outs = outs} {square = square} small blank = record {
+pub begun-none : {test : Test} {outs square alike fresh : List ℕ} → length outs ≤ stateLimit → Blank (length outs) square
+    → Empty (length outs) alike → Empty (length outs) fresh → Begun test outs 0 0 square alike fresh (λ q. false)
+begun-none {outs = outs} {square = square} small blank A F = record {
   kept = record {
     size = blank .size;
-    alike-size = length-replicate {A = ℕ} stateLimit 0;
-    fresh-size = length-replicate {A = ℕ} stateLimit 0;
+    alike-size = A .size;
+    fresh-size = F .size;
     alike-is = λ p q l. absurd (omega arith);
     fresh-is = λ p q l. absurd (omega arith);
     rows-some = λ p t. absurd (clash t refl);
     rows-all = λ p q l. absurd (omega arith);
   };
   entries = λ p q lp lq. filled p q lp lq ∙ rw (le-ltb (p * length outs + q) 0 zero-le);
-  noted = λ p q lp. empty-at stateLimit p q (omega (arith, lp, small)) ∙ ⊎-elim
+  noted = λ p q lp. F .none p q lp ∙ ⊎-elim
       (λ (lq : q < length outs). rw (lt-ltb q (length outs) lq, filled p q lp lq))
       (λ out. rw (le-ltb q (length outs) out))
       (lt-or-le q (length outs));
 }
   where
     filled : (p q : ℕ) → p < length outs → q < length outs → entry square p q ≡ never
-    filled p q lp lq = blank .filled (place p q) (omega (arith, lp, lq, small))
+    filled p q lp lq = blank .filled (place p q) (let r = blank .size in omega (arith, lp, lq, small, r))
 
 begun-rows : {test : Test} {outs : List ℕ} {row number : ℕ} {square alike fresh : List ℕ} {rows rows′ : ℕ → Bool}
     → Begun test outs row number square alike fresh rows → ((q : ℕ) → rows′ q ≡ rows q) → Begun test outs row number square alike fresh rows′
@@ -61,20 +65,21 @@ begun-rows b e = record { kept = kept-rows (b .kept) e; entries = b .entries; no
 
 module _ {test : Test} {outs : List ℕ} {p q : ℕ} {square fresh : List ℕ} where
   -- the test tells the pair apart
-  pub pair-apart : passing test outs p q ≡ true → length square ≡ squareSize → p < stateLimit → q < stateLimit → {fresh′ : List ℕ} {with : ℕ → Bool}
+  pub pair-apart : passing test outs p q ≡ true → length outs ≤ stateLimit → HasRows (length outs) square → p < length outs → q < length outs
+      → {fresh′ : List ℕ} {with : ℕ → Bool}
       → ((x : ℕ) → with x ≡ (setAt fresh p x || (eqb x q && ltb q stateLimit))) → Put fresh p with fresh′
       → PairBegun test outs p q square fresh (set square (place p q) 0) fresh′
-  pair-apart says size lp lq is P = record {
+  pair-apart says small size lp lq is P = record {
     entered = record {
       size = one .size;
       here = λ x lx. one .here x lx ∙ rw (says, and-true (eqb x q));
       elsewhere = one .elsewhere;
     };
-    noted = record { size = P .size; here = λ x. P .here x ∙ is x ∙ rw (says, lt-ltb q stateLimit lq); elsewhere = P .elsewhere };
+    noted = record { size = P .size; here = λ x. P .here x ∙ is x ∙ rw (says, lt-ltb q stateLimit (omega (arith, lq, small))); elsewhere = P .elsewhere };
   }
     where
-      one : Entered square p (λ x. eqb x q) 0 (set square (place p q) 0)
-      one = entered-one square p q 0 size lp lq
+      one : Entered (length outs) square p (λ x. eqb x q) 0 (set square (place p q) 0)
+      one = entered-one (length outs) square p q 0 small size lp lq
 
   -- it does not
   pub pair-alike : passing test outs p q ≡ false → PairBegun test outs p q square fresh square fresh
@@ -119,8 +124,8 @@ module _ {test : Test} {outs : List ℕ} (small : length outs ≤ stateLimit) {p
     entry-kept : (x y : ℕ) → x < n → y < n → (x ≡ p → y ≡ q → ⊥) → entry square′ x y ≡ entry square x y
     entry-kept x y lx ly ne =
         ⊎-elim
-        (λ (e : x ≡ p). rw e (P .entered .here y (omega (arith, ly, small)) ∙ rw (ne-eqb y q (ne e))))
-        (P .entered .elsewhere x y (omega (arith, lx, small)) (omega (arith, ly, small)))
+        (λ (e : x ≡ p). rw e (P .entered .here y ly ∙ rw (ne-eqb y q (ne e))))
+        (P .entered .elsewhere x y lx ly)
         (same-or-not x p)
 
     fresh-kept : (x y : ℕ) → (x ≡ p → y ≡ q → ⊥) → setAt fresh′ x y ≡ setAt fresh x y
@@ -173,9 +178,9 @@ module _ {test : Test} {outs : List ℕ} (small : length outs ≤ stateLimit) {p
     pub begun-pair : Begun test outs p (k + 1) square′ alike fresh′ rows
     begun-pair = record {
       kept = record {
-        size = P .entered .size ∙ b .kept .size;
+        size = rw (P .entered .size) (b .kept .size);
         alike-size = b .kept .alike-size;
-        fresh-size = P .noted .size ∙ b .kept .fresh-size;
+        fresh-size = rw (P .noted .size) (b .kept .fresh-size);
         alike-is = λ x y l. b .kept .alike-is x y l ∙ ⊎-elim
             (λ (ly : y < n). rw (entry-kept x y (omega (arith, l, lp)) ly (λ e. absurd (omega (arith, e, l)))))
             (λ out. rw (le-ltb y n out))
@@ -237,7 +242,7 @@ module _ {test : Test} {outs : List ℕ} (small : length outs ≤ stateLimit) {p
     begun-row = record {
       kept = record {
         size = b .kept .size;
-        alike-size = R .others .size ∙ b .kept .alike-size;
+        alike-size = rw (R .others .size) (b .kept .alike-size);
         fresh-size = b .kept .fresh-size;
         alike-is = λ x q l. ⊎-elim
             (λ (e : x ≡ p). rw e (alike-here q))

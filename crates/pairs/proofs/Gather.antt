@@ -14,10 +14,10 @@ use Rattle.theory.specs.Below.{first}
 use Rattle.theory.specs.Automaton.{Automaton, Closed}
 use Rattle.theory.specs.Monitor.{stateLimit, symbolLimit}
 use Rattle.theory.proofs.Below.{clash, lt-or-le}
-use Rattle.theory.proofs.Bits.{bit-empty}
-use Rattle.state_set.specs.Member.{inWord}
-use Rattle.pairs.specs.Square.{squareSize, place, entry}
-use Rattle.pairs.specs.Layers.{setAt, Put, Empty, Preceding, upTo, Into, Entered}
+use Rattle.state_set.specs.Member.{setAt, Put}
+use Rattle.state_set.proofs.Words.{set-none}
+use Rattle.pairs.specs.Square.{place, HasRows, entry}
+use Rattle.pairs.specs.Layers.{Empty, Preceding, upTo, Into, Entered, Unused}
 use Rattle.pairs.proofs.Visit.{lowest-in, lowest-none}
 
 -- ---- the states below a number
@@ -43,31 +43,29 @@ below-more {q} B l is = record {
 
 -- ---- arrays of sets
 
-word-none : (q : ℕ) → inWord 0 q ≡ false
-unfolding inWord
-word-none q = bit-empty q
+empty-sets : (n size : ℕ) → n * 2 ≤ size → Empty n (replicate size 0)
+empty-sets n size room = record {
+  size = rw (length-replicate {A = ℕ} size 0) room;
+  none = λ p q l. set-none size p q (omega (arith, l, room));
+}
 
-pub empty-at : (size i q : ℕ) → i < size → setAt (replicate size 0) i q ≡ false
-empty-at size i q l = ap (λ (word : ℕ). inWord word q) (getD-replicate {A = ℕ} size i 0 0 l) ∙ word-none q
-
-pub empty-sets : {n : ℕ} → n ≤ stateLimit → Empty n (replicate stateLimit 0)
-empty-sets small = record { size = length-replicate {A = ℕ} stateLimit 0; none = λ p q l. empty-at stateLimit p q (omega (arith, l, small)) }
-
--- a word stored at place i
-pub stored-set : (sets : List ℕ) (i word : ℕ) {f : ℕ → Bool} → ((q : ℕ) → inWord word q ≡ f q) → i < length sets → Put sets i f (set sets i word)
-stored-set sets i word is l = record {
-  size = length-set sets i word;
-  here = λ q. ap (λ (x : ℕ). inWord x q) (getD-set-same sets i word 0 l) ∙ is q;
-  elsewhere = λ j q ne. ap (λ (x : ℕ). inWord x q) (getD-set-other sets i j word 0 ne);
+-- the arrays of a search, as they are filled
+pub unused-sets : {n : ℕ} (size many : ℕ) → n * 2 ≤ size → n * symbolLimit * 2 ≤ many
+    → Unused n (replicate size 0) (replicate size 0) (replicate size 0) (replicate many 0)
+unused-sets {n} size many room most = record {
+  alike-none = empty-sets n size room;
+  fresh-none = empty-sets n size room;
+  next-none = empty-sets n size room;
+  predecessors-none = empty-sets (n * symbolLimit) many most;
 }
 
 -- ---- predecessors
 
 module _ {g : Automaton} where
-  pub preceding-none : g .symbols ≤ symbolLimit → Preceding g (upTo 0 0) (replicate (stateLimit * symbolLimit) 0)
-  preceding-none few = record {
-    size = length-replicate {A = ℕ} (stateLimit * symbolLimit) 0;
-    at = λ x a p lx la. empty-at (stateLimit * symbolLimit) (x * symbolLimit + a) p (omega (arith, lx, la, few))
+  pub preceding-none : {sets : List ℕ} → Empty (g .states * symbolLimit) sets → g .symbols ≤ symbolLimit → Preceding g (upTo 0 0) sets
+  preceding-none E few = record {
+    size = E .size;
+    at = λ x a p lx la. E .none (x * symbolLimit + a) p (omega (arith, lx, la, few))
         ∙ rw (le-ltb p 0 zero-le, le-ltb a 0 zero-le) (nothing (eqb p 0) (eqb (g .next p a) x));
   }
     where
@@ -99,11 +97,11 @@ module _ {g : Automaton} where
       go false false = refl
 
   -- p is entered among the predecessors of x under a
-  pub preceding-more : {p a x : ℕ} {sets after : List ℕ} → g .symbols ≤ symbolLimit → x < stateLimit → a < g .symbols → p < stateLimit → x ≡ g .next p a
+  pub preceding-more : {p a x : ℕ} {sets after : List ℕ} → g .symbols ≤ symbolLimit → x < g .states → a < g .symbols → p < stateLimit → x ≡ g .next p a
       → Preceding g (upTo p a) sets
       → Put sets (x * symbolLimit + a) (λ q. setAt sets (x * symbolLimit + a) q || (eqb q p && ltb p stateLimit)) after
       → Preceding g (upTo p (a + 1)) after
-  preceding-more {p} {a} {x} {sets} {after} few lx la lp ex P S = record { size = S .size ∙ P .size; at = at }
+  preceding-more {p} {a} {x} {sets} {after} few lx la lp ex P S = record { size = rw (S .size) (P .size); at = at }
     where
       -- at another place nothing changes
       other : (y b q : ℕ) → b < g .symbols → ((q ≡ p) → (b ≡ a) → g .next q b ≡ y → ⊥)
@@ -125,7 +123,7 @@ module _ {g : Automaton} where
               (lt-or-le a b))
               (lt-or-le b a)
 
-      at : (y b q : ℕ) → y < stateLimit → b < g .symbols → setAt after (y * symbolLimit + b) q ≡ (upTo p (a + 1) q b && eqb (g .next q b) y)
+      at : (y b q : ℕ) → y < g .states → b < g .symbols → setAt after (y * symbolLimit + b) q ≡ (upTo p (a + 1) q b && eqb (g .next q b) y)
       at y b q ly lb = by-place (eqb (y * symbolLimit + b) (x * symbolLimit + a)) refl
         where
           here : y ≡ x → b ≡ a → setAt after (y * symbolLimit + b) q ≡ (upTo p (a + 1) q b && eqb (g .next q b) y)
@@ -168,17 +166,20 @@ module _ {g : Automaton} {a : ℕ} {sets : List ℕ} (P : Preceding g (λ p b. l
   pub gathering-none : {whole into : ℕ → Bool} → ((q : ℕ) → into q ≡ false) → Gathering g a whole into whole
   gathering-none none = record { at = λ q. rw (none q) }
 
-  pub gathering-more : {whole into left : ℕ → Bool} → Gathering g a whole into left → {y : ℕ} → y ≡ first left 0 stateLimit → y < stateLimit
+  pub gathering-more : {whole into left : ℕ → Bool} → Gathering g a whole into left → g .states ≤ stateLimit → {y : ℕ} → y ≡ first left 0 stateLimit → y < g .states
       → {more into′ left′ : ℕ → Bool} → ((q : ℕ) → more q ≡ setAt sets (y * symbolLimit + a) q) → ((q : ℕ) → into′ q ≡ (into q || more q))
       → ((q : ℕ) → left′ q ≡ (left q && not (eqb q y && ltb y stateLimit))) → Gathering g a whole into′ left′
-  gathering-more {whole} {into} {left} G {y} ey ly im ii il = record {
+  gathering-more {whole} {into} {left} G small {y} ey ly im ii il = record {
     at = λ q.
-        rw (ii q, im q, P .at y a q ly la, il (g .next q a), lt-ltb y stateLimit ly)
+        rw (ii q, im q, P .at y a q ly la, il (g .next q a), lt-ltb y stateLimit below)
         (step (into q) (ltb q (g .states)) (eqb (g .next q a) y) (left (g .next q a))
-        (λ h. (let e = eqb-true (g .next q a) y h in rw e (lowest-in left ey ly))))
+        (λ h. (let e = eqb-true (g .next q a) y h in rw e (lowest-in left ey below))))
         ∙ G .at q;
   }
     where
+      below : y < stateLimit
+      below = omega (arith, ly, small)
+
       step : (i l e f : Bool) → (e ≡ true → f ≡ true) → ((i || (l && e)) || (l && (f && not (e && true)))) ≡ (i || (l && f))
       step true l e f h = refl
       step false false e f h = refl
@@ -187,57 +188,60 @@ module _ {g : Automaton} {a : ℕ} {sets : List ℕ} (P : Preceding g (λ p b. l
       step false true false true h = refl
       step false true false false h = refl
 
-  pub gathering-all : {whole into left : ℕ → Bool} → Gathering g a whole into left → Closed g → g .states ≤ stateLimit → {y : ℕ}
-      → y ≡ first left 0 stateLimit → stateLimit ≤ y → Into g a whole into
-  gathering-all {whole} {into} {left} G c small ey l = record { at = λ q. sym (or-false (into q)) ∙ ap (λ (b : Bool). into q || b) (sym (none q)) ∙ G .at q }
+  pub gathering-all : {whole into left : ℕ → Bool} → Gathering g a whole into left → Closed g → {y : ℕ}
+      → y ≡ first left 0 stateLimit → g .states ≤ y → Into g a whole into
+  gathering-all {whole} {into} {left} G c ey l = record { at = λ q. sym (or-false (into q)) ∙ ap (λ (b : Bool). into q || b) (sym (none q)) ∙ G .at q }
     where
       none : (q : ℕ) → (ltb q (g .states) && left (g .next q a)) ≡ false
       none q =
           ⊎-elim
           (λ (lq : q < g .states).
-          rw (lt-ltb q (g .states) lq) (lowest-none left ey l (g .next q a) (let m = c .next-in q a lq la in omega (arith, m, small))))
+          rw (lt-ltb q (g .states) lq) (lowest-none left ey l (g .next q a) (c .next-in q a lq la)))
           (λ out. rw (le-ltb q (g .states) out))
           (lt-or-le q (g .states))
 
 -- ---- the entries of a row
 
 -- one entry stored
-pub entered-one : (square : List ℕ) (p y d : ℕ) → length square ≡ squareSize → p < stateLimit → y < stateLimit
-    → Entered square p (λ q. eqb q y) d (set square (place p y) d)
-entered-one square p y d size lp ly = record {
+pub entered-one : (n : ℕ) (square : List ℕ) (p y d : ℕ) → n ≤ stateLimit → HasRows n square → p < n → y < n
+    → Entered n square p (λ q. eqb q y) d (set square (place p y) d)
+entered-one n square p y d few size lp ly = record {
   size = length-set square (place p y) d;
   here = λ q lq. by q (eqb q y) refl;
-  elsewhere = λ x q lx lq ne. getD-set-other square (place p y) (place x q) d 0 (λ e. ne (omega (arith, e, lq, ly)));
+  elsewhere = λ x q lx lq ne. getD-set-other square (place p y) (place x q) d 0 (λ e. ne (omega (arith, e, few, lq, ly)));
 }
   where
     by : (q : ℕ) (b : Bool) → eqb q y ≡ b → entry (set square (place p y) d) p q ≡ cond b d (entry square p q)
-    by q true h = (let e = eqb-true q y h in rw e (getD-set-same square (place p y) d 0 (omega (arith, size, lp, ly))))
+    by q true h = (let e = eqb-true q y h in rw e (getD-set-same square (place p y) d 0 (omega (arith, few, size, lp, ly))))
     by q false h = (let ne = eqb-false q y h in getD-set-other square (place p y) (place p q) d 0 (λ e. ne (omega (arith, e))))
 
 -- what is entered for the states that are left makes what is to be entered
-pub record Entering (before : List ℕ) (p : ℕ) (whole : ℕ → Bool) (d : ℕ) (after : List ℕ) (left : ℕ → Bool) : Type 0 where
+pub record Entering (n : ℕ) (before : List ℕ) (p : ℕ) (whole : ℕ → Bool) (d : ℕ) (after : List ℕ) (left : ℕ → Bool) : Type 0 where
   pub size : length after ≡ length before
-  pub here : (q : ℕ) → q < stateLimit → cond (left q) d (entry after p q) ≡ cond (whole q) d (entry before p q)
-  pub elsewhere : (x q : ℕ) → x < stateLimit → q < stateLimit → (x ≡ p → ⊥) → entry after x q ≡ entry before x q
+  pub here : (q : ℕ) → q < n → cond (left q) d (entry after p q) ≡ cond (whole q) d (entry before p q)
+  pub elsewhere : (x q : ℕ) → x < n → q < n → (x ≡ p → ⊥) → entry after x q ≡ entry before x q
 
-pub entering-none : {before : List ℕ} {p : ℕ} {whole : ℕ → Bool} {d : ℕ} → Entering before p whole d before whole
+pub entering-none : {n : ℕ} {before : List ℕ} {p : ℕ} {whole : ℕ → Bool} {d : ℕ} → Entering n before p whole d before whole
 entering-none = record { size = refl; here = λ q l. refl; elsewhere = λ x q lx lq ne. refl }
 
-module _ {before : List ℕ} {p : ℕ} {whole : ℕ → Bool} {d : ℕ} {after : List ℕ} {left : ℕ → Bool} (E : Entering before p whole d after left)
+module _ {n : ℕ} {before : List ℕ} {p : ℕ} {whole : ℕ → Bool} {d : ℕ} {after : List ℕ} {left : ℕ → Bool} (E : Entering n before p whole d after left)
     {y : ℕ} (ey : y ≡ first left 0 stateLimit) where
-  pub entering-more : {left′ : ℕ → Bool} → length before ≡ squareSize → p < stateLimit → y < stateLimit
-      → ((q : ℕ) → left′ q ≡ (left q && not (eqb q y && ltb y stateLimit))) → Entering before p whole d (set after (place p y) d) left′
-  entering-more {left′} size lp ly is = record {
+  pub entering-more : {left′ : ℕ → Bool} → n ≤ stateLimit → HasRows n before → p < n → y < n
+      → ((q : ℕ) → left′ q ≡ (left q && not (eqb q y && ltb y stateLimit))) → Entering n before p whole d (set after (place p y) d) left′
+  entering-more {left′} few size lp ly is = record {
     size = one .size ∙ E .size;
     here = λ q lq.
-        rw (is q, one .here q lq, lt-ltb y stateLimit ly)
-        (step (entry after p q) (left q) (eqb q y) (λ h. (let e = eqb-true q y h in rw e (lowest-in left ey ly))))
+        rw (is q, one .here q lq, lt-ltb y stateLimit below)
+        (step (entry after p q) (left q) (eqb q y) (λ h. (let e = eqb-true q y h in rw e (lowest-in left ey below))))
         ∙ E .here q lq;
     elsewhere = λ x q lx lq ne. one .elsewhere x q lx lq ne ∙ E .elsewhere x q lx lq ne;
   }
     where
-      one : Entered after p (λ q. eqb q y) d (set after (place p y) d)
-      one = entered-one after p y d (E .size ∙ size) lp ly
+      below : y < stateLimit
+      below = omega (arith, ly, few)
+
+      one : Entered n after p (λ q. eqb q y) d (set after (place p y) d)
+      one = entered-one n after p y d few (rw (E .size) size) lp ly
 
       step : (i : ℕ) (f e : Bool) → (e ≡ true → f ≡ true) → cond (f && not (e && true)) d (cond e d i) ≡ cond f d i
       step i true true h = refl
@@ -245,7 +249,7 @@ module _ {before : List ℕ} {p : ℕ} {whole : ℕ → Bool} {d : ℕ} {after :
       step i false true h = absurd (clash (h refl) refl)
       step i false false h = refl
 
-  pub entering-all : stateLimit ≤ y → Entered before p whole d after
+  pub entering-all : n ≤ y → Entered n before p whole d after
   entering-all l = record {
     size = E .size;
     here = λ q lq. sym (rw (lowest-none left ey l q lq)) ∙ E .here q lq;

@@ -16,8 +16,9 @@ use Rattle.theory.specs.Pairs.{Tells, told}
 use Rattle.theory.specs.Extent.{Shortest}
 use Rattle.theory.proofs.Below.{clash, not-clash, both-ways, lt-or-le, or-cases, or-left, or-right, and-left, and-right, and-both, any-at, any-find}
 use Rattle.theory.proofs.Pairs.{onward, told-sound, told-complete, told-more, told-up, still-ever, told-settled}
+use Rattle.state_set.specs.Member.{setAt, Put}
 use Rattle.pairs.specs.Square.{never, squareSize, entry, Noted, Squared}
-use Rattle.pairs.specs.Layers.{setAt, Put, Empty, Preceding, Into, Entered, Ground, Kept, Layer, Front, Midway, GoesAt, rowDone}
+use Rattle.pairs.specs.Layers.{Empty, Preceding, Into, Entered, Ground, Kept, Layer, Front, Midway, GoesAt, rowDone}
 
 -- ---- pairs told apart within a number of symbols
 
@@ -145,7 +146,7 @@ module _ {g : Automaton} {ends : ℕ → ℕ → Bool} {predecessors : List ℕ}
         let h = alike-says q (and-left (setAt alike p q) (into q) x) in
         (h .0, h .1, told-by g ends r p q a la (into-reached q (h .0) (and-right (setAt alike p q) (into q) x)))
 
-    module _ {square′ alike′ next′ : List ℕ} {rows′ : ℕ → Bool} (E : Entered square p new (r + 1) square′)
+    module _ {square′ alike′ next′ : List ℕ} {rows′ : ℕ → Bool} (E : Entered n square p new (r + 1) square′)
         (A : Put alike p (λ q. setAt alike p q && not (new q)) alike′) (X : Put next p (λ q. setAt next p q || new q) next′)
         (R : (q : ℕ) → rows′ q ≡ (rows q || (eqb q p && ltb p stateLimit))) (some : (q : ℕ) × (q < stateLimit) × (new q ≡ true)) where
       small-p : p < stateLimit
@@ -156,20 +157,17 @@ module _ {g : Automaton} {ends : ℕ → ℕ → Bool} {predecessors : List ℕ}
           → ((x ≡ p) × (new q ≡ true) × (entry square′ x q ≡ suc r)) ⊎ ((x ≡ p → new q ≡ false) × (entry square′ x q ≡ entry square x q))
       after x q lx lq = at-row (eqb x p) refl
         where
-          small : q < stateLimit
-          small = (let m = G .small in omega (arith, lq, m))
-
           at-new : x ≡ p → (b : Bool) → new q ≡ b
               → ((x ≡ p) × (new q ≡ true) × (entry square′ x q ≡ suc r)) ⊎ ((x ≡ p → new q ≡ false) × (entry square′ x q ≡ entry square x q))
-          at-new e true h = inl (e, h, rw e (E .here q small ∙ rw h (let z : r + 1 ≡ suc r = omega arith in z)))
-          at-new e false h = inr (λ _. h, rw e (E .here q small ∙ rw h))
+          at-new e true h = inl (e, h, rw e (E .here q lq ∙ rw h (let z : r + 1 ≡ suc r = omega arith in z)))
+          at-new e false h = inr (λ _. h, rw e (E .here q lq ∙ rw h))
 
           at-row : (b : Bool) → eqb x p ≡ b
               → ((x ≡ p) × (new q ≡ true) × (entry square′ x q ≡ suc r)) ⊎ ((x ≡ p → new q ≡ false) × (entry square′ x q ≡ entry square x q))
           at-row true h = at-new (eqb-true x p h) (new q) refl
           at-row false h =
               let ne = eqb-false x p h in
-              inr (λ e. absurd (ne e), E .elsewhere x q (let m = G .small in omega (arith, lx, m)) small ne)
+              inr (λ e. absurd (ne e), E .elsewhere x q lx lq ne)
 
       -- ---- the sets
 
@@ -223,9 +221,9 @@ module _ {g : Automaton} {ends : ℕ → ℕ → Bool} {predecessors : List ℕ}
 
       kept-after : Kept n (suc r) n square′ alike′ next′ rows′
       kept-after = record {
-        size = E .size ∙ M .kept .size;
-        alike-size = A .size ∙ M .kept .alike-size;
-        fresh-size = X .size ∙ M .kept .fresh-size;
+        size = rw (E .size) (M .kept .size);
+        alike-size = rw (A .size) (M .kept .alike-size);
+        fresh-size = rw (X .size) (M .kept .fresh-size);
         alike-is = alike-after;
         fresh-is = next-after;
         rows-some = λ x t. ⊎-elim
@@ -274,40 +272,28 @@ module _ {g : Automaton} {ends : ℕ → ℕ → Bool} {predecessors : List ℕ}
 -- ---- what `spread_row` does
 
 -- a set stored at place p is any that has the same states
-put-as : {before after : List ℕ} {p : ℕ} (f h : ℕ → Bool) → Put before p f after → ((q : ℕ) → f q ≡ h q) → Put before p h after
+pub put-as : {before after : List ℕ} {p : ℕ} (f h : ℕ → Bool) → Put before p f after → ((q : ℕ) → f q ≡ h q) → Put before p h after
 put-as f h P e = record { size = P .size; here = λ q. P .here q ∙ e q; elsewhere = P .elsewhere }
 
 module _ {g : Automaton} {p a r : ℕ} (fits : r + 1 < never) (lp : p < g .states) (la : a < g .symbols) {front : ℕ → Bool}
     {sets square alike next : List ℕ} {rows : ℕ → Bool} where
-  -- no state is alike to p
-  pub row-nothing : ((q : ℕ) → q < stateLimit → setAt alike p q ≡ false)
-      → GoesAt g r (g .next p a) front (rowDone p a) sets square alike next rows square alike next rows
-  row-nothing none = record {
-    goes = λ ends done G F M.
-        spread-nothing G fits lp la F M (λ q lq h t. clash h (none q (let m = G .small in omega (arith, lq, m))));
-  }
-
   module _ {into new : ℕ → Bool}
-      (I : g .states ≤ stateLimit → Closed g → Preceding g (λ x b. ltb x (g .states)) sets → Into g a front into)
+      (I : Closed g → Preceding g (λ x b. ltb x (g .states)) sets → Into g a front into)
       (N : (q : ℕ) → new q ≡ (setAt alike p q && into q)) where
     pub row-none : ((q : ℕ) → q < stateLimit → new q ≡ false)
         → GoesAt g r (g .next p a) front (rowDone p a) sets square alike next rows square alike next rows
-    row-none none = record { goes = λ ends done G F M. spread-none G fits lp la F M (I (G .small) (G .closed) (G .preceding)) N none }
+    row-none none = record { goes = λ ends done G F M. spread-none G fits lp la F M (I (G .closed) (G .preceding)) N none }
 
     pub row-new : {square′ alike′ next′ : List ℕ} {left more rows′ : ℕ → Bool} → (q : ℕ) × (q < stateLimit) × (new q ≡ true)
-        → (length square ≡ squareSize → Entered square p new (r + 1) square′)
-        → (p < length alike → Put alike p left alike′) → ((q : ℕ) → left q ≡ (setAt alike p q && not (new q)))
-        → (p < length next → Put next p more next′) → ((q : ℕ) → more q ≡ (setAt next p q || new q))
+        → Entered (g .states) square p new (r + 1) square′
+        → Put alike p left alike′ → ((q : ℕ) → left q ≡ (setAt alike p q && not (new q)))
+        → Put next p more next′ → ((q : ℕ) → more q ≡ (setAt next p q || new q))
         → ((q : ℕ) → rows′ q ≡ (rows q || (eqb q p && ltb p stateLimit)))
         → GoesAt g r (g .next p a) front (rowDone p a) sets square alike next rows square′ alike′ next′ rows′
     row-new some E A ea X ex R = record {
       goes = λ ends done G F M.
-          let small = G .small in
-          let m = M .kept .alike-size in
-          let n = M .kept .fresh-size in
-          spread-new G fits lp la F M (I small (G .closed) (G .preceding)) N (E (M .kept .size))
-          (put-as _ (λ q. setAt alike p q && not (new q)) (A (omega (arith, lp, small, m))) ea)
-          (put-as _ (λ q. setAt next p q || new q) (X (omega (arith, lp, small, n))) ex) R some;
+          spread-new G fits lp la F M (I (G .closed) (G .preceding)) N E
+          (put-as _ (λ q. setAt alike p q && not (new q)) A ea) (put-as _ (λ q. setAt next p q || new q) X ex) R some;
     }
 
 -- ---- a round

@@ -12,10 +12,39 @@ use Rattle.theory.specs.Below.{first}
 use Rattle.theory.specs.Automaton.{Automaton}
 use Rattle.theory.specs.Monitor.{stateLimit, symbolLimit}
 use Rattle.theory.proofs.Below.{clash, not-clash, lt-or-le, or-cases, or-left, or-right, and-left, and-right, and-both}
+use Rattle.state_set.specs.Member.{setAt, Put}
 use Rattle.pairs.specs.Square.{never}
-use Rattle.pairs.specs.Layers.{setAt, Put, Empty, Ground, Layer, Front, Midway, GoesAt, rowDone, symbolDone, stateDone}
+use Rattle.pairs.specs.Layers.{Empty, Room, Ground, Layer, Front, Midway, GoesAt, rowDone, symbolDone, stateDone}
 use Rattle.pairs.proofs.Visit.{lowest-in, lowest-none, stays}
 use Rattle.pairs.proofs.Layers.{kept-rows, layer-begins, layer-front, layer-next}
+
+-- ---- the arrays of a round keep their lengths
+
+pub record Same (square₀ alike₀ other₀ square alike other : List ℕ) : Type 0 where
+  pub square-same : length square ≡ length square₀
+  pub alike-same : length alike ≡ length alike₀
+  pub other-same : length other ≡ length other₀
+
+pub room-same : {n : ℕ} {sets square₀ alike₀ next₀ square alike next : List ℕ} → Room n square₀ alike₀ next₀ sets
+    → Same square₀ alike₀ next₀ square alike next → Room n square alike next sets
+room-same R S = record {
+  few = R .few;
+  rows = rw (S .square-same) (R .rows);
+  alike-sets = rw (S .alike-same) (R .alike-sets);
+  next-sets = rw (S .other-same) (R .next-sets);
+  predecessors-sets = R .predecessors-sets;
+}
+
+-- between two rounds there is room
+pub room-of : {g : Automaton} {ends : ℕ → ℕ → Bool} {r : ℕ} {sets square alike fresh next : List ℕ} {rows : ℕ → Bool} → Ground g ends sets
+    → Layer g ends r square alike fresh rows → Empty (g .states) next → Room (g .states) square alike next sets
+room-of G L N = record {
+  few = G .small;
+  rows = L .kept .size;
+  alike-sets = L .kept .alike-size;
+  next-sets = N .size;
+  predecessors-sets = G .preceding .size;
+}
 
 -- where less is done, what is done stays
 pub midway-less : {g : Automaton} {ends : ℕ → ℕ → Bool} {r : ℕ} {done less : ℕ → ℕ → Bool} {square alike next : List ℕ} {rows : ℕ → Bool}
@@ -63,7 +92,7 @@ butLeft left more p b = more p b && not (left p)
 -- a row that is left leads to x
 row-leads : (g : Automaton) (x a : ℕ) {ends : ℕ → ℕ → Bool} {sets : List ℕ} (left : ℕ → Bool)
     → ((q : ℕ) → left q ≡ true → setAt sets (x * symbolLimit + a) q ≡ true)
-    → (y : ℕ) → left y ≡ true → x < stateLimit → a < g .symbols → Ground g ends sets → (y < g .states) × (g .next y a ≡ x)
+    → (y : ℕ) → left y ≡ true → x < g .states → a < g .symbols → Ground g ends sets → (y < g .states) × (g .next y a ≡ x)
 row-leads g x a left inside y h lx la G =
     let k = sym (G .preceding .at x a y lx la) ∙ inside y h in (
       ltb-true y (g .states) (and-left (ltb y (g .states)) (eqb (g .next y a) x) k),
@@ -72,7 +101,7 @@ row-leads g x a left inside y h lx la G =
 
 module _ (g : Automaton) (x a : ℕ) {r : ℕ} {front : ℕ → Bool} {sets square₀ alike₀ next₀ : List ℕ} {rows₀ : ℕ → Bool} where
   -- at the beginning all rows are left
-  pub symbol-begins : (left : ℕ → Bool) → x < stateLimit → a < g .symbols → ((q : ℕ) → left q ≡ setAt sets (x * symbolLimit + a) q)
+  pub symbol-begins : (left : ℕ → Bool) → x < g .states → a < g .symbols → ((q : ℕ) → left q ≡ setAt sets (x * symbolLimit + a) q)
       → GoesAt g r x front (butLeft left (symbolDone g x a)) sets square₀ alike₀ next₀ rows₀ square₀ alike₀ next₀ rows₀
   symbol-begins left lx la is = record {
     goes = λ ends done G F M.
@@ -90,16 +119,16 @@ module _ (g : Automaton) (x a : ℕ) {r : ℕ} {front : ℕ → Bool} {sets squa
   -- one row more
   pub symbol-more : (left left′ : ℕ → Bool) {y : ℕ} {square alike next square′ alike′ next′ : List ℕ} {rows rows′ : ℕ → Bool}
       → ((q : ℕ) → left q ≡ true → setAt sets (x * symbolLimit + a) q ≡ true) → y ≡ first left 0 stateLimit → y < stateLimit
-      → x < stateLimit → a < g .symbols
+      → x < g .states → a < g .symbols
       → ((q : ℕ) → left′ q ≡ (left q && not (eqb q y && ltb y stateLimit)))
       → GoesAt g r x front (butLeft left (symbolDone g x a)) sets square₀ alike₀ next₀ rows₀ square alike next rows
-      → (y < g .states → GoesAt g r (g .next y a) front (rowDone y a) sets square alike next rows square′ alike′ next′ rows′)
+      → GoesAt g r (g .next y a) front (rowDone y a) sets square alike next rows square′ alike′ next′ rows′
       → GoesAt g r x front (butLeft left′ (symbolDone g x a)) sets square₀ alike₀ next₀ rows₀ square′ alike′ next′ rows′
   symbol-more left left′ {y} inside ey ly lx la is before step = record {
     goes = λ ends done G F M.
         let row = row-leads g x a left inside y (lowest-in left ey ly) lx la G in
         let e = row .1 in
-        midway-less (step (row .0) .goes ends (λ p b. done p b || butLeft left (symbolDone g x a) p b) G (rw e F) (before .goes ends done G F M))
+        midway-less (step .goes ends (λ p b. done p b || butLeft left (symbolDone g x a) p b) G (rw e F) (before .goes ends done G F M))
         (λ p b lp lb t. ⊎-elim
         (λ o. or-left (done p b || butLeft left (symbolDone g x a) p b) (rowDone y a p b) (or-left (done p b) (butLeft left (symbolDone g x a) p b) o))
         (λ h.
@@ -113,15 +142,15 @@ module _ (g : Automaton) (x a : ℕ) {r : ℕ} {front : ℕ → Bool} {sets squa
         (or-cases (done p b) (butLeft left′ (symbolDone g x a) p b) t));
   }
 
-  pub symbol-ends : (left : ℕ → Bool) {y : ℕ} {square alike next : List ℕ} {rows : ℕ → Bool} → y ≡ first left 0 stateLimit → stateLimit ≤ y
+  pub symbol-ends : (left : ℕ → Bool) {square alike next : List ℕ} {rows : ℕ → Bool} → ((p : ℕ) → p < g .states → left p ≡ false)
       → GoesAt g r x front (butLeft left (symbolDone g x a)) sets square₀ alike₀ next₀ rows₀ square alike next rows
       → GoesAt g r x front (symbolDone g x a) sets square₀ alike₀ next₀ rows₀ square alike next rows
-  symbol-ends left ey l before = record {
+  symbol-ends left none before = record {
     goes = λ ends done G F M.
         midway-less (before .goes ends done G F M) (λ p b lp lb t. ⊎-elim
         (λ o. or-left (done p b) (butLeft left (symbolDone g x a) p b) o)
         (λ h. or-right (done p b) (butLeft left (symbolDone g x a) p b)
-        (keep h (lowest-none left ey l p (let m = G .small in omega (arith, lp, m)))))
+        (keep h (none p lp)))
         (or-cases (done p b) (symbolDone g x a p b) t));
   }
 
@@ -162,7 +191,7 @@ module _ (g : Automaton) (x a : ℕ) {r : ℕ} {front : ℕ → Bool} {sets squa
 pub record Spreading (g : Automaton) (ends : ℕ → ℕ → Bool) (r : ℕ) (rows left : ℕ → Bool) (fresh₀ fresh square alike next : List ℕ)
     (found : ℕ → Bool) : Type 0 where
   pub midway : Midway g ends r (λ p a. rows (g .next p a) && not (left (g .next p a))) square alike next found
-  pub size : length fresh ≡ stateLimit
+  pub size : g .states * 2 ≤ length fresh
   pub within : (x : ℕ) → left x ≡ true → rows x ≡ true
   pub fresh-left : (x q : ℕ) → x < g .states → setAt fresh x q ≡ (left x && setAt fresh₀ x q)
 
@@ -198,11 +227,11 @@ module _ {g : Automaton} {ends : ℕ → ℕ → Bool} {r : ℕ} {square₀ alik
 
       pub spreading-more : {k : ℕ} {front left′ none : ℕ → Bool} {fresh′ square′ alike′ next′ : List ℕ} {found′ : ℕ → Bool} → g .symbols ≡ k
           → ((q : ℕ) → front q ≡ setAt fresh x q)
-          → ((q : ℕ) → none q ≡ false) → (x < length fresh → Put fresh x none fresh′)
+          → ((q : ℕ) → none q ≡ false) → Put fresh x none fresh′
           → GoesAt g r x front (stateDone g x k) sets square alike next found square′ alike′ next′ found′
           → ((q : ℕ) → left′ q ≡ (left q && not (eqb q x && ltb x stateLimit)))
           → Spreading g ends r rows left′ fresh₀ fresh′ square′ alike′ next′ found′
-      spreading-more {k} {front} {left′} {none} {fresh′} ek is bare put step out = record {
+      spreading-more {k} {front} {left′} {none} {fresh′} ek is bare P step out = record {
         midway = midway-less (step .goes ends (λ p a. rows (g .next p a) && not (left (g .next p a))) G
             (front-same (layer-front L x row-in) (λ y. is y ∙ S .fresh-left x y row-in ∙ rw (lowest-in left ex lx))) (S .midway))
             (λ p a lp la t.
@@ -212,14 +241,11 @@ module _ {g : Automaton} {ends : ℕ → ℕ → Bool} {r : ℕ} {square₀ alik
             (λ w. or-right (rows (g .next p a) && not (left (g .next p a))) (stateDone g x k p a)
             (and-both (eqb (g .next p a) x) (ltb a k) (eq-eqb (g .next p a) x w) (lt-ltb a k (omega (arith, la, ek)))))
             (taken left left′ out (g .next p a) (h .1)));
-        size = P .size ∙ S .size;
+        size = rw (P .size) (S .size);
         within = λ z t. S .within z (stays left left′ x out z t);
         fresh-left = λ z q lz. by z q lz (eqb z x) refl;
       }
         where
-          P : Put fresh x none fresh′
-          P = put (let z = S .size in omega (arith, z, lx))
-
           by : (z q : ℕ) → z < g .states → (b : Bool) → eqb z x ≡ b → setAt fresh′ z q ≡ (left′ z && setAt fresh₀ z q)
           by z q lz true h =
               let e = eqb-true z x h in
@@ -230,9 +256,8 @@ module _ {g : Automaton} {ends : ℕ → ℕ → Bool} {r : ℕ} {square₀ alik
               go true = refl
               go false = refl
 
-    pub spreading-ends : stateLimit ≤ x → Layer g ends (suc r) square alike next found × Empty (g .states) fresh
+    pub spreading-ends : g .states ≤ x → Layer g ends (suc r) square alike next found × Empty (g .states) fresh
     spreading-ends l = (
-      layer-next L (G .closed) (S .midway) (λ p a lp la t. keep t (lowest-none left ex l (g .next p a)
-          (let m = G .closed .next-in p a lp la in let n = G .small in omega (arith, m, n)))),
-      record { size = S .size; none = λ z q lz. S .fresh-left z q lz ∙ rw (lowest-none left ex l z (let n = G .small in omega (arith, lz, n))) },
+      layer-next L (G .closed) (S .midway) (λ p a lp la t. keep t (lowest-none left ex l (g .next p a) (G .closed .next-in p a lp la))),
+      record { size = S .size; none = λ z q lz. S .fresh-left z q lz ∙ rw (lowest-none left ex l z lz) },
     )

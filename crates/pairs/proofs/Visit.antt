@@ -14,9 +14,9 @@ use Rattle.theory.proofs.Below.{and-left, first-le, first-here, first-below, lt
 pub lowest-in : (f : ℕ → Bool) {y : ℕ} → y ≡ first f 0 stateLimit → y < stateLimit → f y ≡ true
 lowest-in f {y} e l = rw e (first-here f 0 stateLimit (omega (arith, e, l)))
 
--- where there is none below the limit, the set is empty
-pub lowest-none : (f : ℕ → Bool) {y : ℕ} → y ≡ first f 0 stateLimit → stateLimit ≤ y → (q : ℕ) → q < stateLimit → f q ≡ false
-lowest-none f {y} e l q lq = first-below f 0 stateLimit q zero-le (omega (arith, e, l, lq))
+-- where it is not below n, no state below n is in the set
+pub lowest-none : (f : ℕ → Bool) {n y : ℕ} → y ≡ first f 0 stateLimit → n ≤ y → (q : ℕ) → q < n → f q ≡ false
+lowest-none f e l q lq = first-below f 0 stateLimit q zero-le (omega (arith, e, l, lq))
 
 -- what is left after a state is taken out was there
 pub stays : (left left′ : ℕ → Bool) (y : ℕ) → ((q : ℕ) → left′ q ≡ (left q && not (eqb q y && ltb y stateLimit))) → (q : ℕ) → left′ q ≡ true → left q ≡ true

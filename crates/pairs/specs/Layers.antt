@@ -10,33 +10,23 @@ use lib.ListN.{length, getD}
 use Rattle.theory.specs.Automaton.{Automaton, Closed}
 use Rattle.theory.specs.Monitor.{stateLimit, symbolLimit}
 use Rattle.theory.specs.Pairs.{told}
-use Rattle.state_set.specs.Member.{inWord}
+use Rattle.state_set.specs.Member.{setAt, Put}
 use Rattle.pairs.specs.declared.Test.{Test}
-use Rattle.pairs.specs.Square.{never, squareSize, entry, passing}
+use Rattle.pairs.specs.Square.{never, HasRows, entry, passing}
 
 -- ---- sets of states in arrays
 
--- state q is in the set at place i
-abbrev pub setAt : List ℕ → ℕ → ℕ → Bool
-setAt sets i q = inWord (getD sets i 0) q
-
--- the set at place i became that of the states that pass the test
-pub record Put (before : List ℕ) (i : ℕ) (test : ℕ → Bool) (after : List ℕ) : Type 0 where
-  pub size : length after ≡ length before
-  pub here : (q : ℕ) → setAt after i q ≡ test q
-  pub elsewhere : (j q : ℕ) → (j ≡ i → ⊥) → setAt after j q ≡ setAt before j q
-
 -- the first n sets are empty
 pub record Empty (n : ℕ) (sets : List ℕ) : Type 0 where
-  pub size : length sets ≡ stateLimit
+  pub size : n * 2 ≤ length sets
   pub none : (p q : ℕ) → p < n → setAt sets p q ≡ false
 
 -- ---- predecessors
 
 -- for each state x and symbol a, the states from which a leads to x, of those that were entered so far
 pub record Preceding (g : Automaton) (entered : ℕ → ℕ → Bool) (sets : List ℕ) : Type 0 where
-  pub size : length sets ≡ stateLimit * symbolLimit
-  pub at : (x a p : ℕ) → x < stateLimit → a < g .symbols
+  pub size : g .states * symbolLimit * 2 ≤ length sets
+  pub at : (x a p : ℕ) → x < g .states → a < g .symbols
       → setAt sets (x * symbolLimit + a) p ≡ (entered p a && eqb (g .next p a) x)
 
 -- all states below p were entered, and of p the symbols below a
@@ -49,13 +39,22 @@ pub record Into (g : Automaton) (a : ℕ) (set into : ℕ → Bool) : Type 0 whe
 
 -- ---- entries of a row
 
--- the entries of row p became d for the states that pass the test
-pub record Entered (before : List ℕ) (p : ℕ) (test : ℕ → Bool) (d : ℕ) (after : List ℕ) : Type 0 where
+-- of n states, the entries of row p became d for those that pass the test
+pub record Entered (n : ℕ) (before : List ℕ) (p : ℕ) (test : ℕ → Bool) (d : ℕ) (after : List ℕ) : Type 0 where
   pub size : length after ≡ length before
-  pub here : (q : ℕ) → q < stateLimit → entry after p q ≡ cond (test q) d (entry before p q)
-  pub elsewhere : (x q : ℕ) → x < stateLimit → q < stateLimit → (x ≡ p → ⊥) → entry after x q ≡ entry before x q
+  pub here : (q : ℕ) → q < n → entry after p q ≡ cond (test q) d (entry before p q)
+  pub elsewhere : (x q : ℕ) → x < n → q < n → (x ≡ p → ⊥) → entry after x q ≡ entry before x q
 
 -- ---- layers
+
+-- there is room for n states: in the square, in the two arrays of sets that a round goes on with, and in that of the
+-- predecessors
+pub record Room (n : ℕ) (square alike next predecessors : List ℕ) : Type 0 where
+  pub few : n ≤ stateLimit
+  pub rows : HasRows n square
+  pub alike-sets : n * 2 ≤ length alike
+  pub next-sets : n * 2 ≤ length next
+  pub predecessors-sets : n * symbolLimit * 2 ≤ length predecessors
 
 -- what the search goes by: an automaton, a test that no state passes with itself, and the predecessors of every state
 pub record Ground (g : Automaton) (ends : ℕ → ℕ → Bool) (predecessors : List ℕ) : Type 0 where
@@ -67,9 +66,9 @@ pub record Ground (g : Automaton) (ends : ℕ → ℕ → Bool) (predecessors : 
 -- the sets agree with the square in the rows below `upto`: the states alike to a row are the others that are not told
 -- apart from it, the fresh ones are at d, and `rows` are the rows that have a fresh one
 pub record Kept (n d upto : ℕ) (square alike fresh : List ℕ) (rows : ℕ → Bool) : Type 0 where
-  pub size : length square ≡ squareSize
-  pub alike-size : length alike ≡ stateLimit
-  pub fresh-size : length fresh ≡ stateLimit
+  pub size : HasRows n square
+  pub alike-size : n * 2 ≤ length alike
+  pub fresh-size : n * 2 ≤ length fresh
   pub alike-is : (p q : ℕ) → p < upto → setAt alike p q ≡ ((ltb q n && not (eqb q p)) && eqb (entry square p q) never)
   pub fresh-is : (p q : ℕ) → p < upto → setAt fresh p q ≡ (ltb q n && eqb (entry square p q) d)
   pub rows-some : (p : ℕ) → rows p ≡ true → (p < upto) × ((q : ℕ) × (setAt fresh p q ≡ true))
@@ -126,10 +125,10 @@ stateDone g x k q b = eqb (g .next q b) x && ltb b k
 
 -- ---- before the first round
 
--- the square as it is filled: no pair is told apart
-pub record Blank (square : List ℕ) : Type 0 where
-  pub size : length square ≡ squareSize
-  pub filled : (i : ℕ) → i < squareSize → getD square i 0 ≡ never
+-- the square of n states as it is filled: no pair is told apart
+pub record Blank (n : ℕ) (square : List ℕ) : Type 0 where
+  pub size : HasRows n square
+  pub filled : (i : ℕ) → i < length square → getD square i 0 ≡ never
 
 -- the pairs before `number` in a pass are at 0 where they pass the test, and the others are as they were filled; the
 -- fresh states of every row are those at 0; the rows below `row` are done
@@ -142,7 +141,7 @@ pub record Begun (test : Test) (outs : List ℕ) (row number : ℕ) (square alik
 
 -- one pair more: where p and q pass the test, their entry became 0 and q one of the fresh states of row p
 pub record PairBegun (test : Test) (outs : List ℕ) (p q : ℕ) (square fresh square′ fresh′ : List ℕ) : Type 0 where
-  pub entered : Entered square p (λ x. eqb x q && passing test outs p q) 0 square′
+  pub entered : Entered (length outs) square p (λ x. eqb x q && passing test outs p q) 0 square′
   pub noted : Put fresh p (λ x. setAt fresh p x || (eqb x q && passing test outs p q)) fresh′
 
 -- one row more: the states alike to p became the others that are not fresh, and p one of the rows if it has a fresh one
@@ -152,3 +151,10 @@ pub record RowDone (n p : ℕ) (fresh alike : List ℕ) (rows : ℕ → Bool) (a
     pub same : (x : ℕ) → (x ≡ p → ⊥) → rows′ x ≡ rows x
     pub some : rows′ p ≡ true → (rows p ≡ true) ⊎ ((q : ℕ) × (setAt fresh p q ≡ true))
     pub all : (q : ℕ) → q < stateLimit → setAt fresh p q ≡ true → rows′ p ≡ true
+
+-- the arrays that a search is handed: every set in them is empty, and there is room for n states
+pub record Unused (n : ℕ) (alike fresh next predecessors : List ℕ) : Type 0 where
+  pub alike-none : Empty n alike
+  pub fresh-none : Empty n fresh
+  pub next-none : Empty n next
+  pub predecessors-none : Empty (n * symbolLimit) predecessors

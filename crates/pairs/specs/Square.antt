@@ -18,13 +18,17 @@ use Rattle.pairs.specs.declared.Test.the-variants.{Differ, Misread}
 abbrev pub never : ℕ
 never = 65535
 
--- "all 4,096 pairs of states stand in one square"
+-- "the square has 16,384 places" (02, note 6): a row of places for each state
 abbrev pub squareSize : ℕ
 squareSize = stateLimit * stateLimit
 
 -- where the states p and q have their entry
 abbrev pub place : ℕ → ℕ → ℕ
 place p q = p * stateLimit + q
+
+-- the rows of n states are there: a table of few states has a square of few rows
+abbrev pub HasRows : ℕ → List ℕ → Type 0
+HasRows n square = n * stateLimit ≤ length square
 
 -- what stands in the square for the states p and q
 abbrev pub entry : List ℕ → ℕ → ℕ → ℕ
@@ -43,7 +47,7 @@ pub record Noted (P : List ℕ → Type 0) (e : ℕ) : Type 0 where
 -- the square holds the distance of every pair of states: "a pair's distance is the fewest messages after which its two
 -- states read differently", here: pass the test
 pub record Squared (g : Automaton) (ends : ℕ → ℕ → Bool) (square : List ℕ) : Type 0 where
-  pub size : length square ≡ squareSize
+  pub size : HasRows (g .states) square
   pub noted : (p q : ℕ) → p < g .states → q < g .states → Noted (Tells g ends p q) (entry square p q)
 
 -- what a test says of the output after the sent trace and the output after the received one

@@ -1,11 +1,13 @@
 // The square of pair distances: for every two states, the one after the sent trace first, the fewest symbols after
 // which their outputs pass a test.
 use state_set::StateSet;
+use state_set::WORDS;
 use theory::SQUARE_SIZE;
 use theory::STATE_LIMIT;
 use theory::SYMBOL_LIMIT;
 ghost use mathlib.Core.Path.{_≡_};
 ghost use mathlib.Core.Bool.{Bool, false};
+ghost use mathlib.Core.List.{List};
 ghost use Prim.Native.Nat.{ℕ, suc, _+_, _*_, _≤_, _<_};
 ghost use lib.Dec.{eqb, ltb};
 ghost use lib.ListN.{length};
@@ -13,11 +15,11 @@ ghost use lib.Seq.{sets};
 ghost use Rattle.theory.specs.Below.{first};
 ghost use Rattle.theory.specs.Automaton.{Automaton, Closed, run};
 ghost use Rattle.theory.specs.Monitor.{stateLimit, symbolLimit};
-ghost use Rattle.state_set.specs.Member.{member};
+ghost use Rattle.state_set.specs.Member.{member, setAt};
 ghost use Rattle.monitor.specs.Format.{Rows, graph};
-ghost use Rattle.pairs.specs.Square.{never, squareSize, entry, Squared, passing, nearer, Falling, apart};
+ghost use Rattle.pairs.specs.Square.{never, place, HasRows, entry, Squared, passing, nearer, Falling, apart};
 ghost use Rattle.pairs.specs.Pass.{start, pair};
-ghost use Rattle.pairs.specs.Layers.{setAt, Put, Empty, Preceding, upTo, Into, Entered, Blank};
+ghost use Rattle.pairs.specs.Layers.{Empty, Preceding, upTo, Into, Entered, Room, Blank, Unused};
 ghost use Rattle.pairs.specs.Layers.{Begun, PairBegun, RowDone};
 ghost use Rattle.pairs.specs.Layers.{Ground, Layer, GoesAt, rowDone, symbolDone, stateDone};
 
@@ -65,31 +67,12 @@ fn wide(entry: u16) -> usize
 }
 
 // What the square holds for two states.
-pub fn entry_at(square: &[u16; SQUARE_SIZE], p: usize, q: usize) -> usize
-    requires { ⌜ (p < stateLimit)
-        × (q < stateLimit) ⌝ }
+pub fn entry_at(square: &[u16], p: usize, q: usize) -> usize
+    requires { ⌜ place p q < length (now square) ⌝ }
     ensures { λ r. ⌜ (r ≡ entry (now (square .entry)) p q)
         × (r ≤ never) ⌝ }
 {
     wide(square[p * STATE_LIMIT + q])
-}
-
-// ---- sets of states in arrays, each held as a word
-
-// The set at place p.
-fn set_of(sets: &[u64; STATE_LIMIT], p: usize) -> StateSet
-    requires { ⌜ p < stateLimit ⌝ }
-    ensures { λ r. ⌜ ((q : ℕ) → member r q ≡ setAt (now (sets .entry)) p q) ⌝ }
-{
-    StateSet::of(sets[p])
-}
-
-// Puts a set at place p.
-fn put(sets: &mut [u64; STATE_LIMIT], p: usize, set: StateSet)
-    requires { ⌜ p < stateLimit ⌝ }
-    ensures { λ _. ⌜ (p < length (now (sets .entry)) → Put (now (sets .entry)) p (member set) (now (sets .exit))) ⌝ }
-{
-    sets[p] = set.word();
 }
 
 // Whether no state is in the set.
@@ -99,13 +82,10 @@ fn is_empty(set: StateSet) -> bool
     set.lowest() == STATE_LIMIT
 }
 
-// ---- predecessors
-
-// How many sets of predecessors there are: one for each state and symbol.
-const PREDECESSORS: usize = STATE_LIMIT * SYMBOL_LIMIT;
+// ---- predecessors: a set for each state and symbol
 
 // Puts p among the predecessors of each of its successors.
-fn enter_predecessor(sets: &mut [u64; PREDECESSORS], nexts: &[u8], n: usize, k: usize, p: usize)
+fn enter_predecessor(sets: &mut [u64], nexts: &[u8], n: usize, k: usize, p: usize)
     requires { ⌜ Rows stateLimit n k (now nexts)
         × (p < n)
         × Preceding (graph n k nexts) (upTo p 0) (now sets) ⌝ }
@@ -114,14 +94,14 @@ fn enter_predecessor(sets: &mut [u64; PREDECESSORS], nexts: &[u8], n: usize, k: 
     let mut a = 0;
     while a < k {
         let i = monitor::successor(nexts, n, k, p, a) * SYMBOL_LIMIT + a;
-        sets[i] = StateSet::of(sets[i]).with(p).word();
+        StateSet::read(sets, i).with(p).write(sets, i);
         a += 1;
     }
 }
 
 // Puts every state among the predecessors of its successors: for each state and symbol, the states from which the
 // symbol leads there.
-fn enter_predecessors(sets: &mut [u64; PREDECESSORS], nexts: &[u8], n: usize, k: usize)
+fn enter_predecessors(sets: &mut [u64], nexts: &[u8], n: usize, k: usize)
     requires { ⌜ Rows stateLimit n k (now nexts)
         × Preceding (graph n k nexts) (upTo 0 0) (now sets) ⌝ }
     ensures { λ _. ⌜ Preceding (graph n k (nexts .entry)) (λ p a. ltb p n) (now (sets .exit)) ⌝ }
@@ -134,18 +114,19 @@ fn enter_predecessors(sets: &mut [u64; PREDECESSORS], nexts: &[u8], n: usize, k:
 }
 
 // The predecessors of x under symbol a.
-fn predecessors_of(predecessors: &[u64; PREDECESSORS], x: usize, a: usize) -> StateSet
-    requires { ⌜ (x < stateLimit)
-        × (a < symbolLimit) ⌝ }
+fn predecessors_of(predecessors: &[u64], x: usize, a: usize) -> StateSet
+    requires { ⌜ (x * symbolLimit + a) * 2 + 1 < length (now predecessors) ⌝ }
     ensures { λ r. ⌜ ((q : ℕ) → member r q ≡ setAt (now (predecessors .entry)) (x * symbolLimit + a) q) ⌝ }
 {
-    StateSet::of(predecessors[x * SYMBOL_LIMIT + a])
+    StateSet::read(predecessors, x * SYMBOL_LIMIT + a)
 }
 
-// The states from which a leads into the set.
-fn leading_into(predecessors: &[u64; PREDECESSORS], a: usize, set: StateSet) -> StateSet
-    requires { ⌜ a < symbolLimit ⌝ }
-    ensures { λ r. ⌜ ((g : Automaton) → g .states ≤ stateLimit → a < g .symbols
+// The states from which a leads into the set, of n states.
+fn leading_into(predecessors: &[u64], n: usize, a: usize, set: StateSet) -> StateSet
+    requires { ⌜ (n ≤ stateLimit)
+        × (a < symbolLimit)
+        × (n * symbolLimit * 2 ≤ length (now predecessors)) ⌝ }
+    ensures { λ r. ⌜ ((g : Automaton) → g .states ≡ n → a < g .symbols
         → Preceding g (λ p b. ltb p (g .states)) (now (predecessors .entry)) → Closed g
         → Into g a (member set) (member r)) ⌝ }
 {
@@ -153,7 +134,7 @@ fn leading_into(predecessors: &[u64; PREDECESSORS], a: usize, set: StateSet) -> 
     let mut left = set;
     loop {
         let y = left.lowest();
-        if y >= STATE_LIMIT {
+        if y >= n {
             return into;
         }
         into = into.union(predecessors_of(predecessors, y, a));
@@ -163,16 +144,17 @@ fn leading_into(predecessors: &[u64; PREDECESSORS], a: usize, set: StateSet) -> 
 
 // ---- the pairs at distance r + 1, from those at r
 
-// Enters d for p and each state of the set.
-fn enter(square: &mut [u16; SQUARE_SIZE], p: usize, set: StateSet, d: u16)
-    requires { ⌜ p < stateLimit ⌝ }
-    ensures { λ _. ⌜ (length (now (square .entry)) ≡ squareSize
-        → Entered (now (square .entry)) p (member set) d (now (square .exit))) ⌝ }
+// Enters d for p and each state of the set, of n states.
+fn enter(square: &mut [u16], n: usize, p: usize, set: StateSet, d: u16)
+    requires { ⌜ (n ≤ stateLimit)
+        × HasRows n (now square)
+        × (p < n) ⌝ }
+    ensures { λ _. ⌜ Entered n (now (square .entry)) p (member set) d (now (square .exit)) ⌝ }
 {
     let mut left = set;
     loop {
         let q = left.lowest();
-        if q >= STATE_LIMIT {
+        if q >= n {
             return;
         }
         square[p * STATE_LIMIT + q] = d;
@@ -180,89 +162,98 @@ fn enter(square: &mut [u16; SQUARE_SIZE], p: usize, set: StateSet, d: u16)
     }
 }
 
-// Adds to row p the states alike to p that a leads into the front: p's successor and any state of the front are at r.
-// Returns the rows that have a pair at r + 1, beside those given.
+// Adds to row p those of the states `into` that are alike to p: by some symbol a they lead into a front, p's successor
+// and any state of which are at r. Returns the rows that have a pair at r + 1, beside those given.
 fn spread_row(
-    square: &mut [u16; SQUARE_SIZE],
-    alike: &mut [u64; STATE_LIMIT],
-    next: &mut [u64; STATE_LIMIT],
-    predecessors: &[u64; PREDECESSORS],
+    square: &mut [u16],
+    alike: &mut [u64],
+    next: &mut [u64],
+    n: usize,
     p: usize,
-    a: usize,
-    front: StateSet,
+    into: StateSet,
     r: u16,
     found: StateSet,
 ) -> StateSet
-    requires { ⌜ (p < stateLimit)
-        × (a < symbolLimit)
+    requires { ⌜ (n ≤ stateLimit)
+        × HasRows n (now square)
+        × (n * 2 ≤ length (now alike))
+        × (n * 2 ≤ length (now next))
+        × (p < n)
         × (r + 1 < never) ⌝ }
-    ensures { λ after. ⌜ ((g : Automaton) → p < g .states → a < g .symbols
-        → GoesAt g r (g .next p a) (member front) (rowDone p a) (now (predecessors .entry))
+    ensures { λ after. ⌜ ((g : Automaton) (a : ℕ) (front : ℕ → Bool) (predecessors : List ℕ)
+        → g .states ≡ n → a < g .symbols
+        → (Closed g → Preceding g (λ q b. ltb q (g .states)) predecessors → Into g a front (member into))
+        → GoesAt g r (g .next p a) front (rowDone p a) predecessors
         (now (square .entry)) (now (alike .entry)) (now (next .entry)) (member found)
         (now (square .exit)) (now (alike .exit)) (now (next .exit)) (member after)) ⌝ }
 {
-    let here = set_of(alike, p);
-    if is_empty(here) {
-        return found;
-    }
-    let new = here.intersection(leading_into(predecessors, a, front));
+    let here = StateSet::read(alike, p);
+    let new = here.intersection(into);
     if is_empty(new) {
         return found;
     }
-    put(alike, p, here.minus(new));
-    put(next, p, set_of(next, p).union(new));
-    enter(square, p, new, r + 1);
+    here.minus(new).write(alike, p);
+    StateSet::read(next, p).union(new).write(next, p);
+    enter(square, n, p, new, r + 1);
     found.with(p)
 }
 
 // The same for each row from which a leads to x.
 fn spread_symbol(
-    square: &mut [u16; SQUARE_SIZE],
-    alike: &mut [u64; STATE_LIMIT],
-    next: &mut [u64; STATE_LIMIT],
-    predecessors: &[u64; PREDECESSORS],
+    square: &mut [u16],
+    alike: &mut [u64],
+    next: &mut [u64],
+    predecessors: &[u64],
+    n: usize,
     x: usize,
     a: usize,
     front: StateSet,
     r: u16,
     rows: StateSet,
 ) -> StateSet
-    requires { ⌜ (x < stateLimit)
+    requires { ⌜ Room n (now square) (now alike) (now next) (now predecessors)
+        × (x < n)
         × (a < symbolLimit)
         × (r + 1 < never) ⌝ }
-    ensures { λ after. ⌜ ((g : Automaton) → a < g .symbols
+    ensures { λ after. ⌜ ((g : Automaton) → g .states ≡ n → a < g .symbols
         → GoesAt g r x (member front) (symbolDone g x a) (now (predecessors .entry))
         (now (square .entry)) (now (alike .entry)) (now (next .entry)) (member rows)
         (now (square .exit)) (now (alike .exit)) (now (next .exit)) (member after)) ⌝ }
 {
     let mut found = rows;
     let mut left = predecessors_of(predecessors, x, a);
+    if is_empty(left) {
+        return found;
+    }
+    let into = leading_into(predecessors, n, a, front);
     loop {
         let p = left.lowest();
-        if p >= STATE_LIMIT {
+        if p >= n {
             return found;
         }
-        found = spread_row(square, alike, next, predecessors, p, a, front, r, found);
+        found = spread_row(square, alike, next, n, p, into, r, found);
         left = left.without(p);
     }
 }
 
 // The same for each symbol.
 fn spread_state(
-    square: &mut [u16; SQUARE_SIZE],
-    alike: &mut [u64; STATE_LIMIT],
-    next: &mut [u64; STATE_LIMIT],
-    predecessors: &[u64; PREDECESSORS],
+    square: &mut [u16],
+    alike: &mut [u64],
+    next: &mut [u64],
+    predecessors: &[u64],
+    n: usize,
     k: usize,
     x: usize,
     front: StateSet,
     r: u16,
     rows: StateSet,
 ) -> StateSet
-    requires { ⌜ (k ≤ symbolLimit)
-        × (x < stateLimit)
+    requires { ⌜ Room n (now square) (now alike) (now next) (now predecessors)
+        × (k ≤ symbolLimit)
+        × (x < n)
         × (r + 1 < never) ⌝ }
-    ensures { λ after. ⌜ ((g : Automaton) → g .symbols ≡ k
+    ensures { λ after. ⌜ ((g : Automaton) → g .states ≡ n → g .symbols ≡ k
         → GoesAt g r x (member front) (stateDone g x k) (now (predecessors .entry))
         (now (square .entry)) (now (alike .entry)) (now (next .entry)) (member rows)
         (now (square .exit)) (now (alike .exit)) (now (next .exit)) (member after)) ⌝ }
@@ -270,7 +261,7 @@ fn spread_state(
     let mut found = rows;
     let mut a = 0;
     while a < k {
-        found = spread_symbol(square, alike, next, predecessors, x, a, front, r, found);
+        found = spread_symbol(square, alike, next, predecessors, n, x, a, front, r, found);
         a += 1;
     }
     found
@@ -279,18 +270,21 @@ fn spread_state(
 // The round after r: from the fresh pairs, which are at r, to those at r + 1, each fresh pair once. The rows are those
 // that have a fresh pair; their sets are empty afterwards. Returns the rows of the next round.
 fn spread(
-    square: &mut [u16; SQUARE_SIZE],
-    alike: &mut [u64; STATE_LIMIT],
-    fresh: &mut [u64; STATE_LIMIT],
-    next: &mut [u64; STATE_LIMIT],
-    predecessors: &[u64; PREDECESSORS],
+    square: &mut [u16],
+    alike: &mut [u64],
+    fresh: &mut [u64],
+    next: &mut [u64],
+    predecessors: &[u64],
+    n: usize,
     k: usize,
     r: u16,
     rows: StateSet,
 ) -> StateSet
-    requires { ⌜ (k ≤ symbolLimit)
+    requires { ⌜ Room n (now square) (now alike) (now next) (now predecessors)
+        × (n * 2 ≤ length (now fresh))
+        × (k ≤ symbolLimit)
         × (r + 1 < never) ⌝ }
-    ensures { λ after. ⌜ ((g : Automaton) (ends : ℕ → ℕ → Bool) → g .symbols ≡ k
+    ensures { λ after. ⌜ ((g : Automaton) (ends : ℕ → ℕ → Bool) → g .states ≡ n → g .symbols ≡ k
         → Ground g ends (now (predecessors .entry)) → Empty (g .states) (now (next .entry))
         → Layer g ends r (now (square .entry)) (now (alike .entry)) (now (fresh .entry)) (member rows)
         → Layer g ends (suc r) (now (square .exit)) (now (alike .exit)) (now (next .exit)) (member after)
@@ -300,12 +294,12 @@ fn spread(
     let mut left = rows;
     loop {
         let x = left.lowest();
-        if x >= STATE_LIMIT {
+        if x >= n {
             return found;
         }
-        let front = set_of(fresh, x);
-        put(fresh, x, StateSet::empty());
-        found = spread_state(square, alike, next, predecessors, k, x, front, r, found);
+        let front = StateSet::read(fresh, x);
+        StateSet::empty().write(fresh, x);
+        found = spread_state(square, alike, next, predecessors, n, k, x, front, r, found);
         left = left.without(x);
     }
 }
@@ -372,44 +366,32 @@ fn all_below(n: usize) -> StateSet
 }
 
 // Enters 0 for p and q where the test tells them apart, and adds q to the fresh states of row p.
-fn begin_pair(
-    square: &mut [u16; SQUARE_SIZE],
-    fresh: &mut [u64; STATE_LIMIT],
-    outputs: &[u8],
-    test: Test,
-    p: usize,
-    q: usize,
-)
+fn begin_pair(square: &mut [u16], fresh: &mut [u64], outputs: &[u8], test: Test, p: usize, q: usize)
     requires { ⌜ (length (now outputs) ≤ stateLimit)
         × (p < length (now outputs))
         × (q < length (now outputs))
-        × (length (now square) ≡ squareSize)
-        × (length (now fresh) ≡ stateLimit) ⌝ }
+        × HasRows (length (now outputs)) (now square)
+        × (length (now outputs) * 2 ≤ length (now fresh)) ⌝ }
     ensures { λ _. ⌜ PairBegun test (now (outputs .entry)) p q
         (now (square .entry)) (now (fresh .entry)) (now (square .exit)) (now (fresh .exit)) ⌝ }
 {
     if test.passes(outputs, p, q) {
         square[p * STATE_LIMIT + q] = 0;
-        put(fresh, p, set_of(fresh, p).with(q));
+        StateSet::read(fresh, p).with(q).write(fresh, p);
     }
 }
 
 // Sets the states alike to p, once its fresh ones are known: all others, p itself left out. Returns the rows that have
 // a fresh state, beside those given.
-fn end_row(
-    alike: &mut [u64; STATE_LIMIT],
-    fresh: &[u64; STATE_LIMIT],
-    all: StateSet,
-    p: usize,
-    rows: StateSet,
-) -> StateSet
+fn end_row(alike: &mut [u64], fresh: &[u64], all: StateSet, p: usize, rows: StateSet) -> StateSet
     requires { ⌜ (p < stateLimit)
-        × (length (now alike) ≡ stateLimit) ⌝ }
+        × (p * 2 + 1 < length (now alike))
+        × (p * 2 + 1 < length (now fresh)) ⌝ }
     ensures { λ r. ⌜ ((n : ℕ) → ((q : ℕ) → member all q ≡ ltb q n)
         → RowDone n p (now (fresh .entry)) (now (alike .entry)) (member rows) (now (alike .exit)) (member r)) ⌝ }
 {
-    let apart = set_of(fresh, p);
-    put(alike, p, all.minus(apart).without(p));
+    let apart = StateSet::read(fresh, p);
+    all.minus(apart).without(p).write(alike, p);
     if is_empty(apart) {
         return rows;
     }
@@ -418,9 +400,9 @@ fn end_row(
 
 // The pass before the first round. Returns the rows that have a pair at 0.
 fn begin(
-    square: &mut [u16; SQUARE_SIZE],
-    alike: &mut [u64; STATE_LIMIT],
-    fresh: &mut [u64; STATE_LIMIT],
+    square: &mut [u16],
+    alike: &mut [u64],
+    fresh: &mut [u64],
     outputs: &[u8],
     test: Test,
 ) -> StateSet
@@ -451,52 +433,106 @@ fn begin(
 
 // The square filled with "not told apart".
 pub fn blank() -> [u16; SQUARE_SIZE]
-    ensures { λ r. ⌜ Blank r ⌝ }
+    ensures { λ r. ⌜ Blank stateLimit r ⌝ }
 {
     [NEVER_ENTRY; SQUARE_SIZE]
 }
 
-// Enters the distance of every two states: the fewest symbols after which their outputs pass the test. Round by round,
-// until no pair is fresh; the two arrays of fresh pairs take turns.
-pub fn enter_distances(
-    square: &mut [u16; SQUARE_SIZE],
+// A table of so many states has few: it gets a square of as many rows, and as many sets, since filling the others would
+// take as long as its search.
+pub const FEW: usize = 16;
+
+// The rows of the square for few states, filled.
+pub fn blank_few() -> [u16; FEW * STATE_LIMIT]
+    ensures { λ r. ⌜ Blank 16 r ⌝ }
+{
+    [NEVER_ENTRY; FEW * STATE_LIMIT]
+}
+
+// Enters the distance of every two states: round by round, until no pair is fresh; the two arrays of fresh pairs take
+// turns. The sets are empty at first.
+fn enter_rounds(
+    square: &mut [u16],
+    alike: &mut [u64],
+    fresh: &mut [u64],
+    next: &mut [u64],
+    sets: &mut [u64],
     nexts: &[u8],
     n: usize,
     k: usize,
     outputs: &[u8],
     test: Test,
 )
-    requires { ⌜ Blank (now square)
+    requires { ⌜ Blank n (now square)
+        × Unused n (now alike) (now fresh) (now next) (now sets)
         × Rows stateLimit n k (now nexts)
         × (length (now outputs) ≡ n) ⌝ }
     ensures { λ _. ⌜ Squared (graph n k (nexts .entry)) (passing test (now (outputs .entry))) (now (square .exit)) ⌝ }
 {
-    let mut alike = [0u64; STATE_LIMIT];
-    let mut fresh = [0u64; STATE_LIMIT];
-    let mut next = [0u64; STATE_LIMIT];
-    let mut sets = [0u64; PREDECESSORS];
-    enter_predecessors(&mut sets, nexts, n, k);
-    let mut rows = begin(square, &mut alike, &mut fresh, outputs, test);
+    enter_predecessors(sets, nexts, n, k);
+    let mut rows = begin(square, alike, fresh, outputs, test);
     let mut r = 0u16;
     while !is_empty(rows) {
-        let found = spread(square, &mut alike, &mut fresh, &mut next, &sets, k, r, rows);
-        rows = spread(
+        let found = spread(square, alike, fresh, next, sets, n, k, r, rows);
+        rows = spread(square, alike, next, fresh, sets, n, k, r + 1, found);
+        r += 2;
+    }
+}
+
+// Enters the distance of every two states: the fewest symbols after which their outputs pass the test.
+pub fn enter_distances(
+    square: &mut [u16],
+    nexts: &[u8],
+    n: usize,
+    k: usize,
+    outputs: &[u8],
+    test: Test,
+)
+    requires { ⌜ Blank n (now square)
+        × Rows stateLimit n k (now nexts)
+        × (length (now outputs) ≡ n) ⌝ }
+    ensures { λ _. ⌜ Squared (graph n k (nexts .entry)) (passing test (now (outputs .entry))) (now (square .exit)) ⌝ }
+{
+    if n <= FEW {
+        let mut alike = [0u64; FEW * WORDS];
+        let mut fresh = [0u64; FEW * WORDS];
+        let mut next = [0u64; FEW * WORDS];
+        let mut sets = [0u64; FEW * SYMBOL_LIMIT * WORDS];
+        enter_rounds(
             square,
             &mut alike,
-            &mut next,
             &mut fresh,
-            &sets,
+            &mut next,
+            &mut sets,
+            nexts,
+            n,
             k,
-            r + 1,
-            found,
+            outputs,
+            test,
         );
-        r += 2;
+    } else {
+        let mut alike = [0u64; STATE_LIMIT * WORDS];
+        let mut fresh = [0u64; STATE_LIMIT * WORDS];
+        let mut next = [0u64; STATE_LIMIT * WORDS];
+        let mut sets = [0u64; STATE_LIMIT * SYMBOL_LIMIT * WORDS];
+        enter_rounds(
+            square,
+            &mut alike,
+            &mut fresh,
+            &mut next,
+            &mut sets,
+            nexts,
+            n,
+            k,
+            outputs,
+            test,
+        );
     }
 }
 
 // The lowest symbol that leads from p and q to a pair at `distance`, or the number of symbols.
 fn nearer_by(
-    square: &[u16; SQUARE_SIZE],
+    square: &[u16],
     nexts: &[u8],
     n: usize,
     k: usize,
@@ -505,6 +541,7 @@ fn nearer_by(
     q: usize,
 ) -> usize
     requires { ⌜ Rows stateLimit n k (now nexts)
+        × HasRows n (now square)
         × (p < n)
         × (q < n) ⌝ }
     ensures { λ r. ⌜ r ≡ nearer (graph n k (nexts .entry)) (now (square .entry)) distance p q ⌝ }
@@ -524,7 +561,7 @@ fn nearer_by(
 // Writes the first of the shortest traces that tell p and q apart into the area, from `at` on, and returns the two
 // states it leads to.
 pub fn write_apart(
-    square: &[u16; SQUARE_SIZE],
+    square: &[u16],
     nexts: &[u8],
     n: usize,
     k: usize,
@@ -534,6 +571,7 @@ pub fn write_apart(
     at: usize,
 ) -> Pair
     requires { ⌜ Rows stateLimit n k (now nexts)
+        × HasRows n (now square)
         × Falling (graph n k nexts) (now square)
         × (p < n)
         × (q < n)

@@ -26,7 +26,7 @@ pub fn refusal(out: Output, r: Refusal) -> Output {
 fn body_reason(out: Output, number: usize) -> Output {
     match number {
         1 => out.text(b"shorter than 3 bytes"),
-        2 => out.text(b"the number of states is not from 1 to 64"),
+        2 => out.text(b"the number of states is not from 1 to 128"),
         3 => out.text(b"the number of messages is not from 1 to 16"),
         4 => out.text(b"not as long as its states and messages ask for"),
         5 => out.text(b"the start is none of the states"),

@@ -1,44 +1,61 @@
-// Sets of states, each one 64-bit word.
+// Sets of states, each two 64-bit words: the states below 64 in the lower word, the others in the upper one.
 use theory::STATE_LIMIT;
 ghost use mathlib.Core.Path.{_≡_};
 ghost use mathlib.Core.Bool.{false, not, _&&_, _||_};
-ghost use Prim.Native.Nat.{ℕ};
+ghost use Prim.Native.Nat.{ℕ, _+_, _*_, _<_};
 ghost use lib.Dec.{eqb, ltb};
+ghost use lib.ListN.{length};
 ghost use Rattle.theory.specs.Below.{count, first};
 ghost use Rattle.theory.specs.Monitor.{stateLimit};
-ghost use Rattle.state_set.specs.Member.{inWord, member};
+ghost use Rattle.state_set.specs.Member.{member, setAt, Put};
+
+// The words of a set, and the states that a word has.
+pub const WORDS: usize = 2;
+
+const WORD: usize = 64;
 
 pub struct StateSet {
-    bits: u64,
+    low: u64,
+    high: u64,
 }
 
 impl StateSet {
     pub fn empty() -> Self
         ensures { λ r. ⌜ ((p : ℕ) → member r p ≡ false) ⌝ }
     {
-        Self { bits: 0 }
+        Self { low: 0, high: 0 }
     }
 
-    // The set that a word holds.
-    pub fn of(word: u64) -> Self
-        ensures { λ r. ⌜ ((p : ℕ) → member r p ≡ inWord word p) ⌝ }
+    // Set i of an array of words.
+    pub fn read(words: &[u64], i: usize) -> Self
+        requires { ⌜ i * 2 + 1 < length (now words) ⌝ }
+        ensures { λ r. ⌜ ((p : ℕ) → member r p ≡ setAt (now (words .entry)) i p) ⌝ }
     {
-        Self { bits: word }
+        Self {
+            low: words[i * WORDS],
+            high: words[i * WORDS + 1],
+        }
     }
 
-    // The word that holds the set.
-    pub fn word(self) -> u64
-        ensures { λ r. ⌜ ((p : ℕ) → inWord r p ≡ member self p) ⌝ }
+    // Makes the set that of number i in an array of words.
+    pub fn write(self, words: &mut [u64], i: usize)
+        requires { ⌜ i * 2 + 1 < length (now words) ⌝ }
+        ensures { λ _. ⌜ Put (now (words .entry)) i (member self) (now (words .exit)) ⌝ }
     {
-        self.bits
+        words[i * WORDS] = self.low;
+        words[i * WORDS + 1] = self.high;
     }
 
     // The set with q in it too. A q that is no state's number adds nothing.
     pub fn with(mut self, q: usize) -> Self
         ensures { λ r. ⌜ ((p : ℕ) → member r p ≡ (member self p || (eqb p q && ltb q stateLimit))) ⌝ }
     {
+        if q < WORD {
+            self.low = self.low | (1 << q);
+            return self;
+        }
         if q < STATE_LIMIT {
-            self.bits = self.bits | (1 << q);
+            self.high = self.high | (1 << (q - WORD));
             return self;
         }
         self
@@ -48,8 +65,11 @@ impl StateSet {
     pub fn has(self, q: usize) -> bool
         ensures { λ r. ⌜ r ≡ member self q ⌝ }
     {
+        if q < WORD {
+            return (self.low >> q) & 1 == 1;
+        }
         if q < STATE_LIMIT {
-            return (self.bits >> q) & 1 == 1;
+            return (self.high >> (q - WORD)) & 1 == 1;
         }
         false
     }
@@ -59,7 +79,8 @@ impl StateSet {
         ensures { λ r. ⌜ ((p : ℕ) → member r p ≡ (member self p || member other p)) ⌝ }
     {
         Self {
-            bits: self.bits | other.bits,
+            low: self.low | other.low,
+            high: self.high | other.high,
         }
     }
 
@@ -68,7 +89,8 @@ impl StateSet {
         ensures { λ r. ⌜ ((p : ℕ) → member r p ≡ (member self p && not (member other p))) ⌝ }
     {
         Self {
-            bits: self.bits & !other.bits,
+            low: self.low & !other.low,
+            high: self.high & !other.high,
         }
     }
 
@@ -77,7 +99,8 @@ impl StateSet {
         ensures { λ r. ⌜ ((p : ℕ) → member r p ≡ (member self p && member other p)) ⌝ }
     {
         Self {
-            bits: self.bits & other.bits,
+            low: self.low & other.low,
+            high: self.high & other.high,
         }
     }
 
@@ -92,13 +115,16 @@ impl StateSet {
     pub fn lowest(self) -> usize
         ensures { λ r. ⌜ r ≡ first (member self) 0 stateLimit ⌝ }
     {
-        u64::trailing_zeros(self.bits) as usize
+        if self.low != 0 {
+            return u64::trailing_zeros(self.low) as usize;
+        }
+        u64::trailing_zeros(self.high) as usize + WORD
     }
 
     // How many states are in the set.
     pub fn count(self) -> usize
         ensures { λ r. ⌜ r ≡ count stateLimit (member self) ⌝ }
     {
-        u64::count_ones(self.bits) as usize
+        u64::count_ones(self.low) as usize + u64::count_ones(self.high) as usize
     }
 }

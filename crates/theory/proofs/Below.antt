@@ -2,7 +2,7 @@
 use mathlib.Core.Path.{_≡_, refl, sym, ap, _∙_, subst}
 use mathlib.Core.Bool.{Bool, true, false, not, cond, _&&_, _||_, true≢false, or-comm}
 use mathlib.Core.Logic.{_⊎_, inl, inr, ⊎-elim}
-use Prim.Native.Nat.{ℕ, zero, suc, _+_, _≤_, _<_, suc-le-suc}
+use Prim.Native.Nat.{ℕ, zero, suc, _+_, _-_, _≤_, _<_, suc-le-suc, zero-le}
 use native.Mathlib.Nat.{le-refl, le-of-suc-le-suc, not-suc-le-zero, eq-or-lt-of-le, le-of-lt}
 use native.Mathlib.Numerals.{add-one}
 use native.Mathlib.Omega.{arith}
@@ -192,6 +192,16 @@ count-from (suc n) f g h = rw (h n, count-from n f g h) (swap (g n) (f 0) (count
 
 -- ---- first
 
+-- the numbers from m on, counted from 0
+pub count-joined : (m n : ℕ) (f g : ℕ → Bool) → ((i : ℕ) → f (m + i) ≡ g i) → count (m + n) f ≡ count m f + count n g
+unfolding count
+count-joined m zero f g h = (let e : m + 0 ≡ m = omega arith in rw e (let z : count m f ≡ count m f + 0 = omega arith in z))
+count-joined m (suc n) f g h = (let e : m + suc n ≡ suc (m + n) = omega arith in rw e (rw (h n, count-joined m n f g h) (go (g n))))
+  where
+    go : (b : Bool) → cond b (suc (count m f + count n g)) (count m f + count n g) ≡ count m f + cond b (suc (count n g)) (count n g)
+    go true = omega arith
+    go false = refl
+
 -- a scan that passed over every number from a up to i, and stopped at the end or at a number that passes, has found the first
 pub first-is : (f : ℕ → Bool) (c a i : ℕ) → a ≤ i → i ≤ a + c → ((j : ℕ) → a ≤ j → j < i → f j ≡ false) → (i < a + c → f i ≡ true) → first f a c ≡ i
 unfolding first
@@ -257,3 +267,20 @@ first-from f g h a (suc c) = rw (h a, first-from f g h (suc a) c) (go (g a))
 -- a scan from 0 that passed all c numbers
 pub first-whole : (f : ℕ → Bool) (c : ℕ) {r : ℕ} → r ≡ first f 0 c → c ≤ r → first f 0 c ≡ c
 first-whole f c e l = omega (arith, first-le f 0 c)
+
+-- of m + n numbers: one of the first m, or else one of the others, counted from 0
+pub first-lower : (m n : ℕ) (f : ℕ → Bool) → first f 0 m < m → first f 0 (m + n) ≡ first f 0 m
+first-lower m n f l = first-is f (m + n) 0 (first f 0 m) zero-le (omega (arith, l)) (λ j a b. first-below f 0 m j a b) (λ _. first-here f 0 m (omega (arith, l)))
+
+pub first-upper : (m n : ℕ) (f g : ℕ → Bool) → ((i : ℕ) → f (m + i) ≡ g i) → ((i : ℕ) → i < m → f i ≡ false) → first f 0 (m + n) ≡ m + first g 0 n
+first-upper m n f g h none =
+    first-is f (m + n) 0 (m + first g 0 n) zero-le (omega (arith, first-le g 0 n)) below (λ l. h (first g 0 n) ∙ first-here g 0 n (omega (arith, l)))
+  where
+    below : (j : ℕ) → 0 ≤ j → j < m + first g 0 n → f j ≡ false
+    below j a b =
+        ⊎-elim
+        (none j)
+        (λ (l : m ≤ j).
+        let e : j ≡ m + (j - m) = omega (arith, l) in
+        ap f e ∙ h (j - m) ∙ first-below g 0 n (j - m) zero-le (omega (arith, l, b)))
+        (lt-or-le j m)

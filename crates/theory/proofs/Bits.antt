@@ -2,7 +2,7 @@
 use mathlib.Core.Path.{_≡_, refl, sym, ap, _∙_}
 use mathlib.Core.Bool.{Bool, false, cond, not, _&&_, _||_, and-true, and-false, or-false}
 use mathlib.Core.Logic.{_⊎_, inl, inr}
-use Prim.Native.Nat.{ℕ, zero, suc, _+_, _-_, _*_, _/_, _%_, _^_, _≤_, _<_, min, max}
+use Prim.Native.Nat.{ℕ, zero, suc, _+_, _-_, _*_, _/_, _%_, _^_, _≤_, _<_, suc-le-suc, min, max}
 use native.Mathlib.Nat.{mod-lt, zero-lt-suc, zero-div, div-one, div-div-eq-div-mul, div-eq-of-lt, pow-suc, pow-succ', lt-of-lt-of-le, not-suc-le-zero}
 use native.Mathlib.Nat.{le-of-suc-le-suc, one-mul}
 use native.Mathlib.Omega.{arith}
@@ -154,3 +154,13 @@ zeros-first (suc k) m =
     ap (under (m % 2)) (zeros-first k (m / 2))
     ∙ under-digit (digit m) (first (bit (m / 2)) 0 k)
     ∙ sym (rw (bit-zero m, first-from (bit m) (bit (m / 2)) (bit-suc m) 0 k))
+
+-- a word that is not 0 has a lowest digit
+pub zeros-less : (k m : ℕ) → m < 2 ^ k → 0 < m → trailingZeros k m < k
+unfolding trailingZeros
+zeros-less zero m h l = absurd (omega arith)
+zeros-less (suc k) m h l = go (digit m) refl (zeros-less k (m / 2) (omega (arith, pow-suc 2 k)))
+  where
+    go : {d : ℕ} → Digit d → m % 2 ≡ d → (0 < m / 2 → trailingZeros k (m / 2) < k) → under d (trailingZeros k (m / 2)) < suc k
+    go on e less = omega arith
+    go off e less = suc-le-suc (less (omega (arith, e)))

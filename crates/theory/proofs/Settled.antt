@@ -96,17 +96,6 @@ module _ {limit : ℕ} {m : Monitor} (h : WellFormed limit m) where
 
   module _ (q : ℕ) (l : q < g .states) where
     -- it is true or false exactly where that is settled
-    pub mark-sure : (v : ℕ) → 0 < v → mark q ≡ v → Sure v q
-    unfolding settledMark
-    mark-sure v p = go (m .verdict q) refl (inevitable g (marked m 1) q) refl (inevitable g (marked m 2) q) refl
-      where
-        go : (d : ℕ) → m .verdict q ≡ d → (t : Bool) → inevitable g (marked m 1) q ≡ t → (f : Bool) → inevitable g (marked m 2) q ≡ f
-            → settledFrom d t f ≡ v → Sure v q
-        go zero d true t f e i = subst (λ (u : ℕ). Sure u q) i t
-        go zero d false t true e i = subst (λ (u : ℕ). Sure u q) i e
-        go zero d false t false e i = absurd (omega (arith, p, i))
-        go (suc u) d b t c e i = sure-here v p q l (d ∙ i)
-
     pub sure-mark : (v : ℕ) → 0 < v → v ≤ 2 → Sure v q → mark q ≡ v
     unfolding settledMark
     sure-mark v p s x = go (m .verdict q) refl (inevitable g (marked m 1) q) refl (inevitable g (marked m 2) q) refl
@@ -122,6 +111,17 @@ module _ {limit : ℕ} {m : Monitor} (h : WellFormed limit m) where
             either (suc (suc zero)) a b y = clash y e
             either (suc (suc (suc u))) a b y = omega (arith, b)
         go (suc u) d b t c e = sure-one (suc u) v q (omega arith) p l (sure-here (suc u) (omega arith) q l d) x
+
+    pub mark-sure : (v : ℕ) → 0 < v → mark q ≡ v → Sure v q
+    unfolding settledMark
+    mark-sure v p = go (m .verdict q) refl (inevitable g (marked m 1) q) refl (inevitable g (marked m 2) q) refl
+      where
+        go : (d : ℕ) → m .verdict q ≡ d → (t : Bool) → inevitable g (marked m 1) q ≡ t → (f : Bool) → inevitable g (marked m 2) q ≡ f
+            → settledFrom d t f ≡ v → Sure v q
+        go zero d true t f e i = subst (λ (u : ℕ). Sure u q) i t
+        go zero d false t true e i = subst (λ (u : ℕ). Sure u q) i e
+        go zero d false t false e i = absurd (omega (arith, p, i))
+        go (suc u) d b t c e i = sure-here v p q l (d ∙ i)
 
     pub mark-in : mark q ≤ 2
     unfolding settledMark

@@ -17,10 +17,11 @@ pub record Monitor : Type 0 where
   pub start : ℕ
   pub verdict : ℕ → ℕ
 
--- the greatest number of states (question 2) and of symbols (question 3)
+-- the greatest number of states (question 2; "The graphics inserter needs up to 128", 02, note 6)
 abbrev pub stateLimit : ℕ
-stateLimit = 64
+stateLimit = 128
 
+-- the greatest number of symbols (question 3)
 abbrev pub symbolLimit : ℕ
 symbolLimit = 16
 

@@ -1,7 +1,7 @@
 // The theory has definitions and laws, and three numbers that code needs as well.
 
 // The greatest number of states and of symbols: `stateLimit` and `symbolLimit` in specs/Monitor.antt.
-pub const STATE_LIMIT: usize = 64;
+pub const STATE_LIMIT: usize = 128;
 
 pub const SYMBOL_LIMIT: usize = 16;
 

@@ -6,6 +6,7 @@ use faults::FaultSet;
 use faults::Kind;
 use monitor::Shape;
 use opening::Opened;
+use pairs::FEW;
 use pairs::NEVER;
 use pairs::Test;
 use theory::SQUARE_SIZE;
@@ -19,6 +20,7 @@ ghost use Rattle.theory.specs.Monitor.{stateLimit};
 ghost use Rattle.theory.specs.Series.{Series};
 ghost use Rattle.monitor.specs.Format.{monitorOf};
 ghost use Rattle.monitor.specs.Opening.{monitorIn, TableIn};
+ghost use Rattle.pairs.specs.Layers.{Blank};
 ghost use Rattle.witness.specs.Figures.{seriesFigures, witnessTrace, roomQuestions, witnessValues, outcome};
 ghost use Rattle.witness.specs.Figures.{firstBy, figuresBy, witnessQuestions, witnessAnswer, ofReading};
 ghost use Rattle.witness.specs.Search.{firstOf, answerOf, Posed, Ready, Makes, SentInto, automatonIn};
@@ -58,7 +60,7 @@ struct Harm {
 // The first harmful series from the start on. Its sent trace goes into the area.
 fn harm_of(
     outputs: &[u8],
-    square: &[u16; SQUARE_SIZE],
+    square: &[u16],
     costs: &[usize; STATE_LIMIT],
     totals: &[usize; STATE_LIMIT],
     nexts: &[u8],
@@ -100,7 +102,7 @@ fn harm_of(
 fn witness_of(
     marks: &[u8],
     outputs: &[u8],
-    square: &[u16; SQUARE_SIZE],
+    square: &[u16],
     costs: &[usize; STATE_LIMIT],
     totals: &[usize; STATE_LIMIT],
     nexts: &[u8],
@@ -136,7 +138,7 @@ fn witness_of(
 pub fn find_first(
     marks: &[u8],
     outputs: &[u8],
-    square: &[u16; SQUARE_SIZE],
+    square: &[u16],
     nexts: &[u8],
     t: Shape,
     set: FaultSet,
@@ -168,7 +170,34 @@ pub fn find_first(
     Outcome::Found(witness_of(marks, outputs, square, &costs, &totals, nexts, t, set, area))
 }
 
-// The first witness of a table under a reading and a test.
+// The first witness of a table under a reading and a test, with a square that is filled.
+fn search_in(
+    square: &mut [u16],
+    marks: &[u8],
+    nexts: &[u8],
+    t: Shape,
+    set: FaultSet,
+    domain: usize,
+    test: Test,
+    area: &mut [u8],
+) -> Outcome
+    requires { ⌜ TableIn t marks nexts
+        × Blank (t .states) (now square) ⌝ }
+    ensures figures { λ r. let m = monitorIn t (marks .entry) (nexts .entry) in ⌜ outcome r
+        ≡ asks (roomQuestions (firstBy test m domain (set .bits)) (length (now (area .entry))))
+        (figuresBy test m domain (set .bits)) ⌝ }
+    ensures area { λ r. let m = monitorIn t (marks .entry) (nexts .entry) in ⌜ now (area .exit)
+        ≡ written (outcome r) (witnessTrace (firstBy test m domain (set .bits))) (now (area .entry)) ⌝ }
+{
+    let n = t.states;
+    let mut outputs = [0u8; STATE_LIMIT];
+    readings::write_readings(marks, nexts, t, domain, &mut outputs);
+    let read = &outputs[..n];
+    pairs::enter_distances(square, nexts, n, t.symbols, read, test);
+    find_first(marks, read, square, nexts, t, set, area)
+}
+
+// The same: the square has as many rows as the table needs, few or all.
 fn search_reading(
     marks: &[u8],
     nexts: &[u8],
@@ -185,13 +214,12 @@ fn search_reading(
     ensures area { λ r. let m = monitorIn t (marks .entry) (nexts .entry) in ⌜ now (area .exit)
         ≡ written (outcome r) (witnessTrace (firstBy test m domain (set .bits))) (now (area .entry)) ⌝ }
 {
-    let n = t.states;
-    let mut outputs = [0u8; STATE_LIMIT];
-    readings::write_readings(marks, nexts, t, domain, &mut outputs);
-    let read = &outputs[..n];
+    if t.states <= FEW {
+        let mut square = pairs::blank_few();
+        return search_in(&mut square, marks, nexts, t, set, domain, test, area);
+    }
     let mut square = pairs::blank();
-    pairs::enter_distances(&mut square, nexts, n, t.symbols, read, test);
-    find_first(marks, read, &square, nexts, t, set, area)
+    search_in(&mut square, marks, nexts, t, set, domain, test, area)
 }
 
 // Whether the verdict that a test names, if any, is one of the reading.

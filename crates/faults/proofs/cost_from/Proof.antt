@@ -25,16 +25,16 @@ loop-holds c = least-begins
 
 cost-of-requires : tie.Need-cost-of-requires Inv-loop μ-loop
 cost-of-requires c κs =
-    let start = c .before .before .before .before .before in
+    let start = c .before .before .before .before .before .before in
     let a = start .args in
-    let l = start .pre .1 .1 in
+    let l = start .pre .1 .1 .0 in
     let e = c .before .before .before .seconds-of .ensures in
     let h : c .before .before .loop .second < seconds (rankOf (a .kind)) (a .k) = omega (arith, c .before .loop-test .taken, e) in
-    (start .pre .0, (start .pre .1 .0, c .fault-of .ensures .1 (a .k) l (second-in (rankOf (a .kind)) l h)))
+    (start .pre .0, (start .pre .1 .0, (c .fault-of .ensures .1 (a .k) l (second-in (rankOf (a .kind)) l h), start .pre .1 .1 .1)))
 
 loop-again : tie.Need-loop-again Inv-loop μ-loop
 loop-again c =
-    let a = c .before .before .before .before .before .before .before .args in
+    let a = c .before .before .before .before .before .before .before .before .args in
     let at = c .before .before .before .before .loop in
     let e = c .before .cost-of .ensures ∙ ap (costOf (graph (a .n) (a .k) (a .nexts)) (a .square .now) (a .p)) (c .before .before .fault-of .ensures .0) in
     least-goes-on (at .inv) (omega (arith, c .before .before .before .loop-test .taken, c .before .before .before .before .before .seconds-of .ensures))

@@ -10,12 +10,12 @@ use Rattle.faults.proofs.cost_of.Tie as tie
 
 returns : tie.Need-returns
 returns c =
-    let start = c .before .before .before .before .before .before in
+    let start = c .before .before .before .before .before .before .before in
     let a = start .args in
     c .least-of .ensures
     ∙ cost-is (graph (a .n) (a .k) (a .nexts)) (a .square .now) (a .p) (stepFor (a .fault))
     (c .before .before .before .before .after .ensures .0) (c .before .before .before .after2 .ensures .0)
-    (count-is (a .fault .sent) (start .pre .1 .1 .sent-in .count-most)) (c .before .before .entry-at .ensures .0)
+    (count-is (a .fault .sent) (start .pre .1 .1 .0 .sent-in .count-most)) (c .before .before .entry-at .ensures .0)
 
 pub cost-of-spec : {M : Type 1} → statement M
 cost-of-spec =

@@ -21,7 +21,7 @@ loop-holds c = costs-none _ refl
 
 loop-again : tie.Need-loop-again Inv-loop μ-loop
 loop-again c =
-    let l = lt-of-lt-of-le (c .before .loop-test .taken) (c .before .before .before .before .pre .states-most) in
+    let l = lt-of-lt-of-le (c .before .loop-test .taken) (c .before .before .before .before .before .pre .0 .states-most) in
     costs-more l (c .before .before .loop .inv) (c .cost-at .ensures)
 
 returns : tie.Need-returns Inv-loop μ-loop

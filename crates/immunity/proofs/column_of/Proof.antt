@@ -11,13 +11,13 @@ use Rattle.immunity.proofs.column_of.Tie as tie
 
 find-first-requires : tie.Need-find-first-requires
 find-first-requires c κs =
-    let p = c .before .before .before .before .before .before .before .pre in
+    let p = c .before .before .before .before .before .before .before .before .pre in
     (p .0, table-posed (p .0) (p .0 .rows) Differ (p .0 .marks-length) (p .1))
 
 returns : tie.Need-returns
 returns c =
     let w = c .before .before .before in
-    let s = w .before .before .before .before .before .before .before .before in
+    let s = w .before .before .before .before .before .before .before .before .before in
     let a = s .args in
     let set = w .before .before .with in
     let kind = w .before .before .before .kind-at in

@@ -21,18 +21,18 @@ abbrev μ-loop : tie.MeasureT-loop
 
 column-of-requires : tie.Need-column-of-requires Inv-loop μ-loop
 column-of-requires c κs =
-    let s = c .before .before .before .before in
+    let s = c .before .before .before .before .before in
     (s .pre .0, s .pre .1, search needs, c .before .scratch .ensures)
 
 loop-holds : tie.Need-loop-holds Inv-loop μ-loop
 loop-holds c =
-    let a = c .before .before .before .before .before .before .args in
+    let a = c .before .before .before .before .before .before .before .args in
     let e = c .before .column-of .ensures in
     (filled-one (alone-in (monitorIn (a .t) (a .marks) (a .nexts))) _ (e .0), e .1)
 
 column-of-requires-2 : tie.Need-column-of-requires-2 Inv-loop μ-loop
 column-of-requires-2 c κs =
-    let s = c .before .before .before .before .before .before .before .before .before in
+    let s = c .before .before .before .before .before .before .before .before .before .before in
     (s .pre .0, s .pre .1, c .before .loop-test .taken, c .before .before .loop .inv .1)
 
 loop-again : tie.Need-loop-again Inv-loop μ-loop

@@ -3,6 +3,7 @@ use Prim.Native.Nat.{_+_, _*_, _-_, _≤_}
 use native.Mathlib.Omega.{arith}
 use lib.ListN.{length}
 use borrow.Author.Needs.{needs}
+use Rattle.theory.specs.Monitor.{stateLimit, symbolLimit}
 use Rattle.theory.proofs.Scan.{Passed, rows-begin, rows-go-on, rows-stop, rows-end}
 use Rattle.monitor.specs.Questions.{revokes}
 use Rattle.monitor.proofs.Rows.{rows-most, row-end}
@@ -21,7 +22,7 @@ loop-holds c = rows-begin _ _ _
 -- the row judged lies in the next states
 row-in : (c : tie.After-first-revoking-row Inv-loop μ-loop)
     → (let s = c .before .before .before .before .before in
-    (c .before .before .loop .q * s .args .k + s .args .k ≤ length (s .args .nexts .now)) × (length (s .args .nexts .now) ≤ 1024))
+    (c .before .before .loop .q * s .args .k + s .args .k ≤ length (s .args .nexts .now)) × (length (s .args .nexts .now) ≤ stateLimit * symbolLimit))
 row-in c = (let r = c .before .before .before .before .before .pre in (row-end r (c .before .loop-test .taken), rows-most r))
 
 returns : tie.Need-returns Inv-loop μ-loop

@@ -3,6 +3,7 @@ use Prim.Native.Nat.{_+_, _*_, _-_, _≤_}
 use native.Mathlib.Omega.{arith}
 use borrow.Author.Needs.{needs}
 use lib.ListN.{length}
+use Rattle.theory.specs.Monitor.{stateLimit, symbolLimit}
 use Rattle.theory.proofs.Scan.{Passed, scan-begins, scan-goes-on, scan-finds, scan-ends}
 use Rattle.monitor.specs.Questions.{revokes}
 use Rattle.monitor.proofs.Rows.{rows-most, row-end}
@@ -17,7 +18,7 @@ abbrev μ-loop : tie.MeasureT-loop
 μ-loop marks nexts k q end mark i₀ i = end - i
 
 -- the row lies in the next states, and they are few
-row-in : (s : tie.Start Inv-loop μ-loop) → (s .args .q * s .args .k + s .args .k ≤ length (s .args .nexts .now)) × (length (s .args .nexts .now) ≤ 1024)
+row-in : (s : tie.Start Inv-loop μ-loop) → (s .args .q * s .args .k + s .args .k ≤ length (s .args .nexts .now)) × (length (s .args .nexts .now) ≤ stateLimit * symbolLimit)
 row-in s = (row-end (s .pre .0) (s .pre .1), rows-most (s .pre .0))
 
 returns : tie.Need-returns Inv-loop μ-loop

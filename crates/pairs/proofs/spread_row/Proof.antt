@@ -1,46 +1,73 @@
--- `spread_row` meets its contract: nothing is alike, nothing is new, or what is new is entered.
-use mathlib.Core.Path.{sym, _∙_}
+-- `spread_row` meets its contract: nothing is new, or what is new is entered.
+use mathlib.Core.Path.{_∙_}
+use native.Mathlib.Omega.{arith}
 use borrow.Author.Needs.{needs}
 use Rattle.pairs.proofs.Visit.{empty-none, empty-some}
-use Rattle.pairs.proofs.Layers.{row-nothing, row-none, row-new}
+use Rattle.pairs.proofs.Layers.{row-none, row-new}
 use Rattle.pairs.proofs.spread_row.Statement.{statement}
 use Rattle.pairs.proofs.spread_row.Tie as tie
 
+read-requires : tie.Need-read-requires
+read-requires c κs = (let p = c .before .before .before .before .pre in omega (arith, p .2, p .4))
+
 returns : tie.Need-returns
 returns c =
-    let e = c .before .is-empty .ensures in
-    let here = c .before .before .set-of .ensures in
-    λ g lp la. row-nothing (c .before .before .before .before .pre .2) lp la (λ q lq. sym (here q) ∙ empty-none _ e (c .if1 .taken) q lq)
+    let c₅ = c .before .before .before .before .before in
+    let p = c₅ .before .before .before .pre in
+    λ g a front sets e la into. row-none (p .5) (omega (arith, p .4, e)) la into (λ q. c .before .before .intersection .ensures q ∙ rw (c .before .before .before .read .ensures q))
+    (empty-none _ (c .before .is-empty .ensures) (c .if1 .taken))
 
-returns-2 : tie.Need-returns-2
-returns-2 c =
-    let s = c .before .before .before .before .before .before .before .before in
-    let e = c .before .is-empty2 .ensures in
-    let here = c .before .before .before .before .before .before .set-of .ensures in
-    let new = c .before .before .intersection .ensures in
-    let into = c .before .before .before .leading-into .ensures in
-    λ g lp la. row-none (s .pre .2) lp la (λ small closed P. into g small la P closed) (λ q. new q ∙ rw (here q)) (empty-none _ e (c .if2 .taken))
+write-requires : tie.Need-write-requires
+write-requires c κs =
+    let c₅ = c .before .before .before .before .before in
+    let c₁₀ = c₅ .before .before .before .before .before in
+    (let p = c₁₀ .pre in omega (arith, p .2, p .4))
 
-returns-3 : tie.Need-returns-3
-returns-3 c =
+read-requires-2 : tie.Need-read-requires-2
+read-requires-2 c κs =
+    let c₅ = c .before .before .before .before .before in
+    let c₁₀ = c₅ .before .before .before .before .before in
+    (let p = c₁₀ .before .before .before .before .pre in omega (arith, p .3, p .4))
+
+write-requires-2 : tie.Need-write-requires-2
+write-requires-2 c κs =
     let c₅ = c .before .before .before .before .before in
     let c₁₀ = c₅ .before .before .before .before .before in
     let c₁₅ = c₁₀ .before .before .before .before .before in
-    let s = c₁₅ .before .before .before .before in
-    let e = c₁₀ .before .before .is-empty2 .ensures in
-    let here = c₁₅ .before .before .set-of .ensures in
-    let new = c₁₀ .before .before .before .intersection .ensures in
-    let into = c₁₀ .before .before .before .before .leading-into .ensures in
-    let out = c₅ .before .before .before .before .minus .ensures in
-    let more = c .before .before .before .before .union .ensures in
-    let next = c₅ .set-of2 .ensures in
-    λ g lp la. row-new (s .pre .2) lp la (λ small closed P. into g small la P closed) (λ q. new q ∙ rw (here q)) (empty-some _ e (c₁₀ .before .if2 .left))
-    (c .before .enter .ensures) (c₅ .before .before .before .put .ensures) (λ q. out q ∙ rw (here q)) (c .before .before .before .put2 .ensures)
-    (λ q. more q ∙ rw (next q)) (c .with .ensures)
+    (let p = c₁₅ .before .before .pre in omega (arith, p .3, p .4))
+
+add-enter : tie.Need-add-enter
+add-enter c =
+    let c₅ = c .before .before .before .before .before in
+    let c₁₀ = c₅ .before .before .before .before .before in
+    let c₁₅ = c₁₀ .before .before .before .before .before in
+    let c₂₀ = c₁₅ .before .before .before .before .before in
+    (let l = c₂₀ .before .pre .5 in omega (arith, l))
+
+enter-requires : tie.Need-enter-requires
+enter-requires c κs =
+    let c₅ = c .before .before .before .before .before in
+    let c₁₀ = c₅ .before .before .before .before .before in
+    let c₁₅ = c₁₀ .before .before .before .before .before in
+    let c₂₀ = c₁₅ .before .before .before .before .before in
+    (let p = c₂₀ .before .pre in (p .0, p .1, p .4))
+
+returns-2 : tie.Need-returns-2
+returns-2 c =
+    let c₅ = c .before .before .before .before .before in
+    let c₁₀ = c₅ .before .before .before .before .before in
+    let c₁₅ = c₁₀ .before .before .before .before .before in
+    let c₂₀ = c₁₅ .before .before .before .before .before in
+    let c₂₅ = c₂₀ .before .before .before .before .before in
+    let p = c₂₅ .pre in
+    let here = c₂₀ .read .ensures in
+    λ g a front sets e la into. row-new (p .5) (omega (arith, p .4, e)) la into (λ q. c₁₅ .before .before .before .before .intersection .ensures q ∙ rw (here q))
+    (empty-some _ (c₁₅ .before .before .before .is-empty .ensures) (c₁₅ .before .before .if1 .left)) (rw e (c .before .before .before .enter .ensures)) (c₁₀ .before .before .before .before .write .ensures) (λ q. c₁₅ .before .minus .ensures q ∙ rw (here q)) (c₅ .before .before .write2 .ensures)
+    (λ q. c₅ .before .before .before .before .union .ensures q ∙ rw (c₁₀ .read2 .ensures q)) (c .with .ensures)
 
 pub spread-row-spec : {M : Type 1} → statement M
 spread-row-spec =
     tie.close (tie.spec
-    (λ c κs. search needs) (λ c κs. search needs) returns (λ c κs. search needs) (λ c κs. search needs) (λ c κs. search needs)
-    returns-2 (λ c κs. search needs) (λ c κs. search needs) (λ c κs. search needs) (λ c κs. search needs)
-    (λ c κs. search needs) (λ c. search needs) (λ c κs. search needs) (λ c κs. search needs) returns-3)
+    read-requires (λ c κs. search needs) (λ c κs. search needs) (λ c. search needs) returns (λ c κs. search needs) write-requires read-requires-2
+    (λ c κs. search needs) write-requires-2 add-enter enter-requires (λ c κs. search needs) (λ c. search needs) (λ c. search needs)
+    (λ c. search needs) returns-2)

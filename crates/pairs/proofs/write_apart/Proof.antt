@@ -13,44 +13,50 @@ Inv-loop square nexts n k p q area₀ at x₀ y₀ i₀ left₀ area x y i left 
 abbrev μ-loop : tie.MeasureT-loop
 μ-loop square nexts n k p q area₀ at x₀ y₀ i₀ left₀ area x y i left = left
 
+entry-at-requires : tie.Need-entry-at-requires Inv-loop μ-loop
+entry-at-requires c κs = (let s = c .before .before .before .pre in omega (arith, s .0 .states-most, s .1, s .3, s .4))
+
 loop-holds : tie.Need-loop-holds Inv-loop μ-loop
-loop-holds c =
-    let s = c .before .before .before .pre in
-    walk-begins (s .2) (s .3) (c .entry-at .ensures .0) (s .4) (s .5)
+loop-holds c = (let s = c .before .before .before .before .pre in walk-begins (s .3) (s .4) (c .entry-at .ensures .0) (s .5) (s .6))
+
+nearer-by-requires : tie.Need-nearer-by-requires Inv-loop μ-loop
+nearer-by-requires c κs =
+    let c₅ = c .before .before .before .before .before in
+    (let s = c₅ .before .pre in let w = c .before .loop .inv in (s .0, s .1, w .first-in, w .second-in))
 
 cast-area : tie.Need-cast-area Inv-loop μ-loop
 cast-area c =
-    let s = c .before .before .before .before .before .before .pre in
-    omega (arith, s .0 .symbols-most, walk-symbol (c .before .before .loop .inv) (s .1) (c .before .loop-test .taken) (c .nearer-by .ensures))
+    let c₅ = c .before .before .before .before .before in
+    let s = c₅ .before .before .pre in
+    omega (arith, s .0 .symbols-most, walk-symbol (c .before .before .loop .inv) (s .2) (c .before .loop-test .taken) (c .nearer-by .ensures))
 
 successor-requires : tie.Need-successor-requires Inv-loop μ-loop
 successor-requires c κs =
-    let s = c .before .before .before .before .before .before .pre in
+    let c₅ = c .before .before .before .before .before in
+    let s = c₅ .before .before .pre in
     let w = c .before .before .loop .inv in
-    (s .0, w .first-in, walk-symbol w (s .1) (c .before .loop-test .taken) (c .nearer-by .ensures))
+    (s .0, w .first-in, walk-symbol w (s .2) (c .before .loop-test .taken) (c .nearer-by .ensures))
 
 successor-requires-2 : tie.Need-successor-requires-2 Inv-loop μ-loop
 successor-requires-2 c κs =
-    let s = c .before .before .before .before .before .before .before .pre in
+    let c₅ = c .before .before .before .before .before in
+    let s = c₅ .before .before .before .pre in
     let w = c .before .before .before .loop .inv in
-    (s .0, w .second-in, walk-symbol w (s .1) (c .before .before .loop-test .taken) (c .before .nearer-by .ensures))
+    (s .0, w .second-in, walk-symbol w (s .2) (c .before .before .loop-test .taken) (c .before .nearer-by .ensures))
 
 add-i : tie.Need-add-i Inv-loop μ-loop
 add-i c =
     let w = c .before .before .before .before .loop .inv in
-    omega (
-      arith,
-      w .room,
-      c .before .before .before .loop-test .taken,
-      walk-length w,
-      c .before .before .before .before .before .before .before .before .good .1 .1 .1 .1 .1 .1 .0 .0,
-    )
+    let l = w .room in
+    let m = walk-length w in
+    let t = c .before .before .before .loop-test .taken in
+    search needs
 
 loop-again : tie.Need-loop-again Inv-loop μ-loop
 loop-again c =
-    let s = c .before .before .before .before .before .before .before .before .pre in
-    walk-goes-on (c .before .before .before .before .loop .inv) (s .1) (c .before .before .before .loop-test .taken) (next-of-rows (s .0))
-    (c .before .before .nearer-by .ensures) (c .before .successor .ensures .0) (c .successor2 .ensures .0)
+    let c₅ = c .before .before .before .before .before in
+    let s = c₅ .before .before .before .before .pre in
+    walk-goes-on (c .before .before .before .before .loop .inv) (s .2) (c .before .before .before .loop-test .taken) (next-of-rows (s .0)) (c .before .before .nearer-by .ensures) (c .before .successor .ensures .0) (c .successor2 .ensures .0)
 
 same-length : tie.Need-same-length Inv-loop μ-loop
 same-length c = walk-length (c .before .loop .inv)
@@ -64,5 +70,5 @@ returns c =
 pub write-apart-spec : {M : Type 1} → statement M
 write-apart-spec =
     tie.close (tie.spec
-    Inv-loop μ-loop (λ c κs. search needs) loop-holds (λ c. search needs) (λ c κs. search needs) cast-area
-    (λ c. search needs) successor-requires successor-requires-2 add-i (λ c. search needs) loop-again same-length returns)
+    Inv-loop μ-loop entry-at-requires loop-holds (λ c. search needs) nearer-by-requires cast-area (λ c. search needs) successor-requires
+    successor-requires-2 add-i (λ c. search needs) loop-again same-length returns)

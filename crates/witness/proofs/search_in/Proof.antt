@@ -1,0 +1,52 @@
+-- `search_in` meets its contract.
+use mathlib.Core.Path.{sym}
+use lib.ListN.{length, take}
+use borrow.Author.Needs.{needs}
+use Rattle.theory.specs.Monitor.{reading}
+use Rattle.monitor.specs.Opening.{monitorIn}
+use Rattle.witness.specs.Figures.{outcome}
+use Rattle.witness.proofs.Tables.{filled-read, filled-count, table-posed, table-answer, table-area}
+use Rattle.witness.proofs.search_in.Statement.{statement}
+use Rattle.witness.proofs.search_in.Tie as tie
+
+slice-aggregate-read : tie.Need-slice-aggregate-read
+slice-aggregate-read c = filled-count _ _ _ (c .before .before .write-readings .ensures)
+
+enter-distances-requires : tie.Need-enter-distances-requires
+enter-distances-requires c κs =
+    let c₅ = c .before .before .before .before .before in
+    (let p = c₅ .before .before .before .before .pre in (p .1, p .0 .rows, sym (filled-count _ _ _ (c .before .before .before .write-readings .ensures))))
+
+find-first-requires : tie.Need-find-first-requires
+find-first-requires c κs =
+    let c₅ = c .before .before .before .before .before in
+    let c₁₀ = c₅ .before .before .before .before .before in
+    let s = c₁₀ .before .before .before .before in
+    let w = c₅ .before .before .before .write-readings .ensures in
+    let p = s .pre .0 in
+    (p, table-posed p (p .rows) (s .args .test) (sym (filled-count _ _ _ w)) (c .before .before .before .before .enter-distances .ensures))
+
+returns : tie.Need-returns
+returns c =
+    let c₅ = c .before .before .before .before .before in
+    let c₁₀ = c₅ .before .before .before .before .before in
+    let c₁₅ = c₁₀ .before .before .before .before .before in
+    let s = c₁₅ .before .before in
+    let a = s .args in
+    let p = s .pre .0 in
+    let w = c₁₀ .before .write-readings in
+    let m = monitorIn (a .t) (a .marks) (a .nexts) in
+    let outs = take (a .t .states) (w .last .1 .1 .1 .1 .0) in
+    let read = filled-read (a .t .states) (reading m (a .domain)) _ (w .ensures) in
+    let square = c₅ .before .before .enter-distances in
+    let e = c .before .before .find-first .ensures in (
+      table-answer p (a .test) (a .domain) (a .set .bits) outs (square .last .0) read (square .ensures) (length (a .area .now)) (e .0),
+      table-area p (a .test) (a .domain) (a .set .bits) outs (square .last .0) read (square .ensures)
+          (outcome (c .before .before .find-first .result)) (a .area .now) (e .1),
+    )
+
+pub search-in-spec : {M : Type 1} → statement M
+search-in-spec =
+    tie.close (tie.spec
+    (λ c. search needs) (λ c κs. search needs) (λ c. search needs) slice-aggregate-read enter-distances-requires find-first-requires
+    (λ c. search needs) (λ c. search needs) returns)
