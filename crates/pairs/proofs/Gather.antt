@@ -6,10 +6,10 @@ use mathlib.Core.Logic.{⊎-elim}
 use Prim.Native.Nat.{ℕ, _+_, _*_, _≤_, _<_, zero-le}
 use native.Mathlib.Nat.{le-refl}
 use native.Mathlib.Omega.{arith}
-use lib.Dec.{eqb, ltb}
+use lib.Dec.{eqb, leb, ltb}
 use lib.ListN.{length, set, replicate, length-set, length-replicate, getD-replicate}
 use lib.Seq.{getD-set-same, getD-set-other}
-use borrow.Author.Tests.{eq-eqb, ne-eqb, eqb-true, eqb-false, lt-ltb, le-ltb}
+use borrow.Author.Tests.{eq-eqb, ne-eqb, eqb-true, eqb-false, lt-ltb, le-ltb, le-leb, lt-leb}
 use Rattle.theory.specs.Below.{first}
 use Rattle.theory.specs.Automaton.{Automaton, Closed}
 use Rattle.theory.specs.Monitor.{stateLimit, symbolLimit}
@@ -17,7 +17,7 @@ use Rattle.theory.proofs.Below.{clash, lt-or-le}
 use Rattle.state_set.specs.Member.{setAt, Put}
 use Rattle.state_set.proofs.Words.{set-none}
 use Rattle.pairs.specs.Square.{place, HasRows, entry}
-use Rattle.pairs.specs.Layers.{Empty, Preceding, upTo, Into, Entered, Unused}
+use Rattle.pairs.specs.Layers.{Empty, Preceding, upTo, leading, Into, Joined, Entered, Unused}
 use Rattle.pairs.proofs.Visit.{lowest-in, lowest-none}
 
 -- ---- the states below a number
@@ -158,29 +158,26 @@ module _ {g : Automaton} where
 
 -- ---- what leads into a set
 
--- what was gathered, and what leads into the states that are left, make what leads into the whole
-pub record Gathering (g : Automaton) (a : ℕ) (whole into left : ℕ → Bool) : Type 0 where
-  pub at : (q : ℕ) → (into q || (ltb q (g .states) && left (g .next q a))) ≡ (ltb q (g .states) && whole (g .next q a))
+-- what was gathered, and what leads into the states that are left, make what leads into the whole, beside what was there
+pub record Gathering (g : Automaton) (a : ℕ) (whole before into left : ℕ → Bool) : Type 0 where
+  pub at : (q : ℕ) → (into q || leading g a left q) ≡ (before q || leading g a whole q)
 
-module _ {g : Automaton} {a : ℕ} {sets : List ℕ} (P : Preceding g (λ p b. ltb p (g .states)) sets) (la : a < g .symbols) where
-  pub gathering-none : {whole into : ℕ → Bool} → ((q : ℕ) → into q ≡ false) → Gathering g a whole into whole
-  gathering-none none = record { at = λ q. rw (none q) }
+pub gathering-none : {g : Automaton} {a : ℕ} {whole before : ℕ → Bool} → Gathering g a whole before before whole
+gathering-none = record { at = λ q. refl }
 
-  pub gathering-more : {whole into left : ℕ → Bool} → Gathering g a whole into left → g .states ≤ stateLimit → {y : ℕ} → y ≡ first left 0 stateLimit → y < g .states
-      → {more into′ left′ : ℕ → Bool} → ((q : ℕ) → more q ≡ setAt sets (y * symbolLimit + a) q) → ((q : ℕ) → into′ q ≡ (into q || more q))
-      → ((q : ℕ) → left′ q ≡ (left q && not (eqb q y && ltb y stateLimit))) → Gathering g a whole into′ left′
-  gathering-more {whole} {into} {left} G small {y} ey ly im ii il = record {
+module _ {g : Automaton} {a : ℕ} {sets : List ℕ} (P : Preceding g (λ p b. ltb p (g .states)) sets) (la : a < g .symbols)
+    {whole before into left : ℕ → Bool} (G : Gathering g a whole before into left) where
+  pub gathering-more : {y : ℕ} → left y ≡ true → y < g .states → {more into′ left′ : ℕ → Bool} → ((q : ℕ) → more q ≡ setAt sets (y * symbolLimit + a) q)
+      → ((q : ℕ) → into′ q ≡ (into q || more q)) → ((q : ℕ) → left′ q ≡ (left q && not (eqb q y))) → Gathering g a whole before into′ left′
+  gathering-more {y} hy ly im ii il = record {
     at = λ q.
-        rw (ii q, im q, P .at y a q ly la, il (g .next q a), lt-ltb y stateLimit below)
+        rw (ii q, im q, P .at y a q ly la, il (g .next q a))
         (step (into q) (ltb q (g .states)) (eqb (g .next q a) y) (left (g .next q a))
-        (λ h. (let e = eqb-true (g .next q a) y h in rw e (lowest-in left ey below))))
+        (λ h. (let e = eqb-true (g .next q a) y h in rw e hy)))
         ∙ G .at q;
   }
     where
-      below : y < stateLimit
-      below = omega (arith, ly, small)
-
-      step : (i l e f : Bool) → (e ≡ true → f ≡ true) → ((i || (l && e)) || (l && (f && not (e && true)))) ≡ (i || (l && f))
+      step : (i l e f : Bool) → (e ≡ true → f ≡ true) → ((i || (l && e)) || (l && (f && not e))) ≡ (i || (l && f))
       step true l e f h = refl
       step false false e f h = refl
       step false true true true h = refl
@@ -188,17 +185,36 @@ module _ {g : Automaton} {a : ℕ} {sets : List ℕ} (P : Preceding g (λ p b. l
       step false true false true h = refl
       step false true false false h = refl
 
-  pub gathering-all : {whole into left : ℕ → Bool} → Gathering g a whole into left → Closed g → {y : ℕ}
-      → y ≡ first left 0 stateLimit → g .states ≤ y → Into g a whole into
-  gathering-all {whole} {into} {left} G c ey l = record { at = λ q. sym (or-false (into q)) ∙ ap (λ (b : Bool). into q || b) (sym (none q)) ∙ G .at q }
+  pub gathering-all : Closed g → ((q : ℕ) → q < g .states → left q ≡ false) → Joined g a whole before into
+  gathering-all c none = record { at = λ q. sym (or-false (into q)) ∙ ap (λ (b : Bool). into q || b) (sym (nothing q)) ∙ G .at q }
     where
-      none : (q : ℕ) → (ltb q (g .states) && left (g .next q a)) ≡ false
-      none q =
+      nothing : (q : ℕ) → leading g a left q ≡ false
+      nothing q =
           ⊎-elim
-          (λ (lq : q < g .states).
-          rw (lt-ltb q (g .states) lq) (lowest-none left ey l (g .next q a) (c .next-in q a lq la)))
+          (λ (lq : q < g .states). rw (lt-ltb q (g .states) lq) (none (g .next q a) (c .next-in q a lq la)))
           (λ out. rw (le-ltb q (g .states) out))
           (lt-or-le q (g .states))
+
+-- two words, one after the other
+pub joined-into : {g : Automaton} {a : ℕ} {set low high none some into : ℕ → Bool} → ((q : ℕ) → none q ≡ false)
+    → ((q : ℕ) → low q ≡ (ltb q 64 && set q)) → ((q : ℕ) → high q ≡ (leb 64 q && set q)) → Joined g a low none some → Joined g a high some into
+    → Into g a set into
+joined-into {g} {a} {set} bare L H A B = record {
+  at = λ q.
+      B .at q ∙ rw (A .at q, bare q, L (g .next q a), H (g .next q a))
+      (⊎-elim
+      (λ (l : g .next q a < 64). rw (lt-ltb (g .next q a) 64 l, lt-leb 64 (g .next q a) l) (one (ltb q (g .states)) (set (g .next q a))))
+      (λ (l : 64 ≤ g .next q a). rw (le-ltb (g .next q a) 64 l, le-leb 64 (g .next q a) l) (other (ltb q (g .states)) (set (g .next q a))))
+      (lt-or-le (g .next q a) 64));
+}
+  where
+    one : (b c : Bool) → ((b && c) || (b && false)) ≡ (b && c)
+    one true c = or-false c
+    one false c = refl
+
+    other : (b c : Bool) → ((b && false) || (b && c)) ≡ (b && c)
+    other true c = refl
+    other false c = refl
 
 -- ---- the entries of a row
 

@@ -17,8 +17,8 @@ use Rattle.theory.specs.Extent.{Shortest}
 use Rattle.theory.proofs.Below.{clash, not-clash, both-ways, lt-or-le, or-cases, or-left, or-right, and-left, and-right, and-both, any-at, any-find}
 use Rattle.theory.proofs.Pairs.{onward, told-sound, told-complete, told-more, told-up, still-ever, told-settled}
 use Rattle.state_set.specs.Member.{setAt, Put}
-use Rattle.pairs.specs.Square.{never, squareSize, entry, Noted, Squared}
-use Rattle.pairs.specs.Layers.{Empty, Preceding, Into, Entered, Ground, Kept, Layer, Front, Midway, GoesAt, rowDone}
+use Rattle.pairs.specs.Square.{never, entry, Noted, Squared}
+use Rattle.pairs.specs.Layers.{Empty, Preceding, Into, Entered, Ground, Kept, Layer, Front, Midway, Idle, GoesAt, rowDone}
 
 -- ---- pairs told apart within a number of symbols
 
@@ -65,6 +65,34 @@ kept-rows k e = record {
   rows-all = λ p q l t. e p ∙ k .rows-all p q l t;
 }
 
+-- what is not told apart from p, and is another state, is among the alike
+pub told-alike : {g : Automaton} {ends : ℕ → ℕ → Bool} {predecessors : List ℕ} → Ground g ends predecessors → (r p a q : ℕ) {d : ℕ} {square alike next : List ℕ}
+    {rows : ℕ → Bool} → Kept (g .states) d (g .states) square alike next rows → p < g .states → a < g .symbols → q < g .states
+    → told g ends r (g .next p a) (g .next q a) ≡ true → entry square p q ≡ never → setAt alike p q ≡ true
+told-alike {g} {ends} G r p a q {square = square} K lp la lq t e =
+    let other : (q ≡ p) → ⊥ = λ h. clash (subst (λ (z : ℕ). told g ends r (g .next p a) (g .next z a) ≡ true) h t)
+    (told-self g ends (G .closed) (G .self) r (g .next p a) (G .closed .next-in p a lp la)) in
+    K .alike-is p q lp ∙ rw (lt-ltb q (g .states) lq, ne-eqb q p other, eq-eqb (entry square p q) never e)
+
+-- a row that no state is alike to is done
+pub idle-done : {g : Automaton} {ends : ℕ → ℕ → Bool} {predecessors : List ℕ} → Ground g ends predecessors → {r : ℕ} {done : ℕ → ℕ → Bool}
+    {square alike next : List ℕ} {rows : ℕ → Bool} → Midway g ends r done square alike next rows → {opened : ℕ → Bool} → Idle (g .states) opened alike
+    → Midway g ends r (λ p a. done p a || not (opened p)) square alike next rows
+idle-done {g} {ends} G {r} {done} {square} M {opened} I = record {
+  kept = M .kept;
+  old = M .old;
+  known = M .known;
+  new = M .new;
+  covered = λ p q a lp lq la d t.
+      ⊎-elim
+      (λ o. M .covered p q a lp lq la o t)
+      (λ o. ⊎-elim
+      (λ l. l)
+      (λ e. absurd (clash (told-alike G r p a q (M .kept) lp la lq t e) (I .at p q lp lq (not-true (opened p) o))))
+      (M .known p q lp lq))
+      (or-cases (done p a) (not (opened p)) d);
+}
+
 -- ---- one row with one symbol
 
 module _ {g : Automaton} {ends : ℕ → ℕ → Bool} {predecessors : List ℕ} (G : Ground g ends predecessors) {r : ℕ} (fits : r + 1 < never)
@@ -77,12 +105,8 @@ module _ {g : Automaton} {ends : ℕ → ℕ → Bool} {predecessors : List ℕ}
   abbrev reached : ℕ → Type 0
   reached q = told g ends r (g .next p a) (g .next q a) ≡ true
 
-  -- what is not told apart from p, and is another state, is among the alike
   is-alike : (q : ℕ) → q < n → reached q → entry square p q ≡ never → setAt alike p q ≡ true
-  is-alike q lq t e =
-      let other : (q ≡ p) → ⊥ = λ h. clash (subst (λ (z : ℕ). told g ends r (g .next p a) (g .next z a) ≡ true) h t)
-      (told-self g ends (G .closed) (G .self) r (g .next p a) (G .closed .next-in p a lp la)) in
-      M .kept .alike-is p q lp ∙ rw (lt-ltb q n lq, ne-eqb q p other, eq-eqb (entry square p q) never e)
+  is-alike q lq t e = told-alike G r p a q (M .kept) lp la lq t e
 
   alike-says : (q : ℕ) → setAt alike p q ≡ true → (q < n) × (entry square p q ≡ never)
   alike-says q t =
@@ -282,7 +306,10 @@ module _ {g : Automaton} {p a r : ℕ} (fits : r + 1 < never) (lp : p < g .state
       (N : (q : ℕ) → new q ≡ (setAt alike p q && into q)) where
     pub row-none : ((q : ℕ) → q < stateLimit → new q ≡ false)
         → GoesAt g r (g .next p a) front (rowDone p a) sets square alike next rows square alike next rows
-    row-none none = record { goes = λ ends done G F M. spread-none G fits lp la F M (I (G .closed) (G .preceding)) N none }
+    row-none none = record {
+      goes = λ ends done G F M. spread-none G fits lp la F M (I (G .closed) (G .preceding)) N none;
+      shrinks = λ x q h. h;
+    }
 
     pub row-new : {square′ alike′ next′ : List ℕ} {left more rows′ : ℕ → Bool} → (q : ℕ) × (q < stateLimit) × (new q ≡ true)
         → Entered (g .states) square p new (r + 1) square′
@@ -290,11 +317,16 @@ module _ {g : Automaton} {p a r : ℕ} (fits : r + 1 < never) (lp : p < g .state
         → Put next p more next′ → ((q : ℕ) → more q ≡ (setAt next p q || new q))
         → ((q : ℕ) → rows′ q ≡ (rows q || (eqb q p && ltb p stateLimit)))
         → GoesAt g r (g .next p a) front (rowDone p a) sets square alike next rows square′ alike′ next′ rows′
-    row-new some E A ea X ex R = record {
+    row-new {alike′ = alike′} some E A ea X ex R = record {
       goes = λ ends done G F M.
           spread-new G fits lp la F M (I (G .closed) (G .preceding)) N E
           (put-as _ (λ q. setAt alike p q && not (new q)) A ea) (put-as _ (λ q. setAt next p q || new q) X ex) R some;
+      shrinks = λ x q h. fewer x q h (eqb x p) refl;
     }
+      where
+        fewer : (x q : ℕ) → setAt alike x q ≡ false → (b : Bool) → eqb x p ≡ b → setAt alike′ x q ≡ false
+        fewer x q h true t = (let e = eqb-true x p t in rw e (A .here q ∙ ea q ∙ rw (rw e at h)))
+        fewer x q h false t = A .elsewhere x q (eqb-false x p t) ∙ h
 
 -- ---- a round
 

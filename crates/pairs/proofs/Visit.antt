@@ -2,13 +2,14 @@
 use mathlib.Core.Path.{_≡_, refl, sym, _∙_}
 use mathlib.Core.Bool.{Bool, true, false, not, _&&_}
 use mathlib.Core.Logic.{⊎-elim}
-use Prim.Native.Nat.{ℕ, _≤_, _<_, zero-le}
+use Prim.Native.Nat.{ℕ, _+_, _≤_, _<_, min, zero-le}
 use native.Mathlib.Omega.{arith}
 use lib.Dec.{eqb, ltb}
-use borrow.Author.Tests.{eq-eqb, eqb-true, eqb-false, lt-ltb}
+use borrow.Author.Tests.{eq-eqb, eqb-true, eqb-false, lt-ltb, lt-leb}
 use Rattle.theory.specs.Below.{first, count}
 use Rattle.theory.specs.Monitor.{stateLimit}
-use Rattle.theory.proofs.Below.{and-left, first-le, first-here, first-below, lt-or-le, count-more}
+use Rattle.theory.proofs.Below.{and-left, first-le, first-ge, first-here, first-below, lt-or-le, count-more}
+use Rattle.state_set.specs.Member.{inPart}
 
 -- the lowest state below the limit is in the set
 pub lowest-in : (f : ℕ → Bool) {y : ℕ} → y ≡ first f 0 stateLimit → y < stateLimit → f y ≡ true
@@ -40,3 +41,30 @@ module _ (f : ℕ → Bool) {b : Bool} (e : b ≡ eqb (first f 0 stateLimit) sta
       let m = first-le f 0 stateLimit in
       let l : first f 0 stateLimit < stateLimit = ⊎-elim (λ h. h) (λ h. absurd (z (omega (arith, m, h)))) (lt-or-le (first f 0 stateLimit) stateLimit) in
       (first f 0 stateLimit, l, lowest-in f refl l)
+
+-- ---- the states of one word
+
+module _ (from word : ℕ) {y : ℕ} (e : y ≡ first (inPart from word) from 64) where
+  -- the lowest is in the word
+  pub part-in : y < from + 64 → inPart from word y ≡ true
+  part-in l = rw e (first-here (inPart from word) from 64 (omega (arith, e, l)))
+
+  pub part-from : from ≤ y
+  part-from = (let m = first-ge (inPart from word) from 64 in omega (arith, e, m))
+
+  -- where it is not below n, no state below n is
+  pub part-none : (n : ℕ) → ((q : ℕ) → from + 64 ≤ q → inPart from word q ≡ false) → min n (from + 64) ≤ y → (q : ℕ) → q < n → inPart from word q ≡ false
+  unfolding inPart
+  part-none n past l q lq =
+      ⊎-elim
+      (λ (b : q < from). rw (lt-leb from q b))
+      (λ (b : from ≤ q). ⊎-elim
+      (λ (m : q < from + 64). first-below (inPart from word) from 64 q b (omega (arith, e, l, lq, m)))
+      (past q)
+      (lt-or-le q (from + 64)))
+      (lt-or-le q from)
+
+-- taken out, it leaves fewer
+pub part-less : (f h : ℕ → Bool) {y n : ℕ} → f y ≡ true → y < n → ((q : ℕ) → h q ≡ (f q && not (eqb q y))) → count n h < count n f
+part-less f h {y} {n} hy l is =
+    count-more n h f (λ q lq t. and-left (f q) (not (eqb q y)) (sym (is q) ∙ t)) y l (is y ∙ rw (eq-eqb y y refl, hy)) hy

@@ -34,8 +34,15 @@ abbrev pub upTo : ℕ → ℕ → ℕ → ℕ → Bool
 upTo p a q b = ltb q p || (eqb q p && ltb b a)
 
 -- the states from which a leads to a state of the set
+abbrev pub leading : Automaton → ℕ → (ℕ → Bool) → ℕ → Bool
+leading g a set q = ltb q (g .states) && set (g .next q a)
+
 pub record Into (g : Automaton) (a : ℕ) (set into : ℕ → Bool) : Type 0 where
-  pub at : (q : ℕ) → into q ≡ (ltb q (g .states) && set (g .next q a))
+  pub at : (q : ℕ) → into q ≡ leading g a set q
+
+-- the same, added to what was there
+pub record Joined (g : Automaton) (a : ℕ) (set before into : ℕ → Bool) : Type 0 where
+  pub at : (q : ℕ) → into q ≡ (before q || leading g a set q)
 
 -- ---- entries of a row
 
@@ -102,18 +109,28 @@ pub record Midway (g : Automaton) (ends : ℕ → ℕ → Bool) (r : ℕ) (done 
   pub covered : (p q a : ℕ) → p < g .states → q < g .states → a < g .symbols → done p a ≡ true
       → told g ends r (g .next p a) (g .next q a) ≡ true → entry square p q ≤ suc r
 
--- the round goes on: with what is at distance r from x, more rows and symbols are done, whatever the test of two states
+-- the round goes on: with what is at distance r from x, more rows and symbols are done, whatever the test of two
+-- states; no state becomes alike to another
 pub record GoesAt (g : Automaton) (r x : ℕ) (front : ℕ → Bool) (more : ℕ → ℕ → Bool) (predecessors : List ℕ)
     (square alike next : List ℕ) (rows : ℕ → Bool) (square′ alike′ next′ : List ℕ) (rows′ : ℕ → Bool) : Type 0 where
   pub goes : (ends : ℕ → ℕ → Bool) (done : ℕ → ℕ → Bool) → Ground g ends predecessors → Front g ends r x front
       → Midway g ends r done square alike next rows
       → Midway g ends r (λ p a. done p a || more p a) square′ alike′ next′ rows′
+  pub shrinks : (p q : ℕ) → setAt alike p q ≡ false → setAt alike′ p q ≡ false
+
+-- no state is alike to a row that is not open
+pub record Idle (n : ℕ) (opened : ℕ → Bool) (alike : List ℕ) : Type 0 where
+  pub at : (p q : ℕ) → p < n → q < n → opened p ≡ false → setAt alike p q ≡ false
 
 -- ---- what is done at a time
 
 -- one row with one symbol
 abbrev pub rowDone : ℕ → ℕ → ℕ → ℕ → Bool
 rowDone p a q b = eqb q p && eqb b a
+
+-- the rows of a set with symbol a
+abbrev pub setDone : (ℕ → Bool) → ℕ → ℕ → ℕ → Bool
+setDone set a q b = set q && eqb b a
 
 -- the rows that symbol a leads to x
 abbrev pub symbolDone : Automaton → ℕ → ℕ → ℕ → ℕ → Bool

@@ -1,12 +1,13 @@
 // The square of pair distances: for every two states, the one after the sent trace first, the fewest symbols after
 // which their outputs pass a test.
 use state_set::StateSet;
+use state_set::WORD;
 use state_set::WORDS;
 use theory::SQUARE_SIZE;
 use theory::STATE_LIMIT;
 use theory::SYMBOL_LIMIT;
 ghost use mathlib.Core.Path.{_≡_};
-ghost use mathlib.Core.Bool.{Bool, false};
+ghost use mathlib.Core.Bool.{Bool, true, false};
 ghost use mathlib.Core.List.{List};
 ghost use Prim.Native.Nat.{ℕ, suc, _+_, _*_, _≤_, _<_};
 ghost use lib.Dec.{eqb, ltb};
@@ -15,13 +16,13 @@ ghost use lib.Seq.{sets};
 ghost use Rattle.theory.specs.Below.{first};
 ghost use Rattle.theory.specs.Automaton.{Automaton, Closed, run};
 ghost use Rattle.theory.specs.Monitor.{stateLimit, symbolLimit};
-ghost use Rattle.state_set.specs.Member.{member, setAt};
+ghost use Rattle.state_set.specs.Member.{inPart, member, setAt};
 ghost use Rattle.monitor.specs.Format.{Rows, graph};
 ghost use Rattle.pairs.specs.Square.{never, place, HasRows, entry, Squared, passing, nearer, Falling, apart};
 ghost use Rattle.pairs.specs.Pass.{start, pair};
-ghost use Rattle.pairs.specs.Layers.{Empty, Preceding, upTo, Into, Entered, Room, Blank, Unused};
+ghost use Rattle.pairs.specs.Layers.{Empty, Preceding, upTo, Into, Joined, Entered, Room, Idle, Blank, Unused};
 ghost use Rattle.pairs.specs.Layers.{Begun, PairBegun, RowDone};
-ghost use Rattle.pairs.specs.Layers.{Ground, Layer, GoesAt, rowDone, symbolDone, stateDone};
+ghost use Rattle.pairs.specs.Layers.{Ground, Layer, GoesAt, rowDone, setDone, symbolDone, stateDone};
 
 // Not told apart. Any smaller number counts symbols.
 pub const NEVER: usize = 65535;
@@ -121,7 +122,38 @@ fn predecessors_of(predecessors: &[u64], x: usize, a: usize) -> StateSet
     StateSet::read(predecessors, x * SYMBOL_LIMIT + a)
 }
 
-// The states from which a leads into the set, of n states.
+// The states from which a leads into those of a word, of n states, beside those given.
+fn leading_part(
+    predecessors: &[u64],
+    n: usize,
+    a: usize,
+    word: u64,
+    from: usize,
+    given: StateSet,
+) -> StateSet
+    requires { ⌜ (n ≤ stateLimit)
+        × (a < symbolLimit)
+        × (n * symbolLimit * 2 ≤ length (now predecessors))
+        × (from ≤ 64) ⌝ }
+    ensures { λ r. ⌜ ((g : Automaton) → g .states ≡ n → a < g .symbols
+        → Preceding g (λ p b. ltb p (g .states)) (now (predecessors .entry)) → Closed g
+        → Joined g a (inPart from word) (member given) (member r)) ⌝ }
+{
+    let end = basics::least_of(n, from + WORD);
+    let mut into = given;
+    let mut left = word;
+    loop {
+        let y = state_set::lowest_in(left, from);
+        if y >= end {
+            return into;
+        }
+        into = into.union(predecessors_of(predecessors, y, a));
+        left = state_set::take_out(left, from, y);
+    }
+}
+
+// The states from which a leads into the set, of n states. Each word has a loop of its own, so that an upper word that
+// no state uses costs nothing.
 fn leading_into(predecessors: &[u64], n: usize, a: usize, set: StateSet) -> StateSet
     requires { ⌜ (n ≤ stateLimit)
         × (a < symbolLimit)
@@ -130,16 +162,8 @@ fn leading_into(predecessors: &[u64], n: usize, a: usize, set: StateSet) -> Stat
         → Preceding g (λ p b. ltb p (g .states)) (now (predecessors .entry)) → Closed g
         → Into g a (member set) (member r)) ⌝ }
 {
-    let mut into = StateSet::empty();
-    let mut left = set;
-    loop {
-        let y = left.lowest();
-        if y >= n {
-            return into;
-        }
-        into = into.union(predecessors_of(predecessors, y, a));
-        left = left.without(y);
-    }
+    let low = leading_part(predecessors, n, a, set.low(), 0, StateSet::empty());
+    leading_part(predecessors, n, a, set.high(), WORD, low)
 }
 
 // ---- the pairs at distance r + 1, from those at r
@@ -198,13 +222,53 @@ fn spread_row(
     found.with(p)
 }
 
-// The same for each row from which a leads to x.
+// The same for each row of a word.
+fn spread_part(
+    square: &mut [u16],
+    alike: &mut [u64],
+    next: &mut [u64],
+    n: usize,
+    word: u64,
+    from: usize,
+    into: StateSet,
+    r: u16,
+    rows: StateSet,
+) -> StateSet
+    requires { ⌜ (n ≤ stateLimit)
+        × HasRows n (now square)
+        × (n * 2 ≤ length (now alike))
+        × (n * 2 ≤ length (now next))
+        × (from ≤ 64)
+        × (r + 1 < never) ⌝ }
+    ensures { λ after. ⌜ ((g : Automaton) (x a : ℕ) (front : ℕ → Bool) (predecessors : List ℕ)
+        → g .states ≡ n → x < g .states → a < g .symbols
+        → (Closed g → Preceding g (λ q b. ltb q (g .states)) predecessors → Into g a front (member into))
+        → ((p : ℕ) → inPart from word p ≡ true → setAt predecessors (x * symbolLimit + a) p ≡ true)
+        → GoesAt g r x front (setDone (inPart from word) a) predecessors
+        (now (square .entry)) (now (alike .entry)) (now (next .entry)) (member rows)
+        (now (square .exit)) (now (alike .exit)) (now (next .exit)) (member after)) ⌝ }
+{
+    let end = basics::least_of(n, from + WORD);
+    let mut found = rows;
+    let mut left = word;
+    loop {
+        let p = state_set::lowest_in(left, from);
+        if p >= end {
+            return found;
+        }
+        found = spread_row(square, alike, next, n, p, into, r, found);
+        left = state_set::take_out(left, from, p);
+    }
+}
+
+// The same for each open row from which a leads to x.
 fn spread_symbol(
     square: &mut [u16],
     alike: &mut [u64],
     next: &mut [u64],
     predecessors: &[u64],
     n: usize,
+    opened: StateSet,
     x: usize,
     a: usize,
     front: StateSet,
@@ -216,24 +280,18 @@ fn spread_symbol(
         × (a < symbolLimit)
         × (r + 1 < never) ⌝ }
     ensures { λ after. ⌜ ((g : Automaton) → g .states ≡ n → a < g .symbols
+        → Idle n (member opened) (now (alike .entry))
         → GoesAt g r x (member front) (symbolDone g x a) (now (predecessors .entry))
         (now (square .entry)) (now (alike .entry)) (now (next .entry)) (member rows)
         (now (square .exit)) (now (alike .exit)) (now (next .exit)) (member after)) ⌝ }
 {
-    let mut found = rows;
-    let mut left = predecessors_of(predecessors, x, a);
+    let left = predecessors_of(predecessors, x, a).intersection(opened);
     if is_empty(left) {
-        return found;
+        return rows;
     }
     let into = leading_into(predecessors, n, a, front);
-    loop {
-        let p = left.lowest();
-        if p >= n {
-            return found;
-        }
-        found = spread_row(square, alike, next, n, p, into, r, found);
-        left = left.without(p);
-    }
+    let found = spread_part(square, alike, next, n, left.low(), 0, into, r, rows);
+    spread_part(square, alike, next, n, left.high(), WORD, into, r, found)
 }
 
 // The same for each symbol.
@@ -244,6 +302,7 @@ fn spread_state(
     predecessors: &[u64],
     n: usize,
     k: usize,
+    opened: StateSet,
     x: usize,
     front: StateSet,
     r: u16,
@@ -254,6 +313,7 @@ fn spread_state(
         × (x < n)
         × (r + 1 < never) ⌝ }
     ensures { λ after. ⌜ ((g : Automaton) → g .states ≡ n → g .symbols ≡ k
+        → Idle n (member opened) (now (alike .entry))
         → GoesAt g r x (member front) (stateDone g x k) (now (predecessors .entry))
         (now (square .entry)) (now (alike .entry)) (now (next .entry)) (member rows)
         (now (square .exit)) (now (alike .exit)) (now (next .exit)) (member after)) ⌝ }
@@ -261,10 +321,50 @@ fn spread_state(
     let mut found = rows;
     let mut a = 0;
     while a < k {
-        found = spread_symbol(square, alike, next, predecessors, n, x, a, front, r, found);
+        found = spread_symbol(
+            square,
+            alike,
+            next,
+            predecessors,
+            n,
+            opened,
+            x,
+            a,
+            front,
+            r,
+            found,
+        );
         a += 1;
     }
     found
+}
+
+// The rows given, and p if some state is alike to it.
+fn open_row(alike: &[u64], p: usize, rows: StateSet) -> StateSet
+    requires { ⌜ (p < stateLimit)
+        × (p * 2 + 1 < length (now alike)) ⌝ }
+    ensures others { λ r. ⌜ ((x : ℕ) → member r x ≡ false → member rows x ≡ false) ⌝ }
+    ensures own { λ r. ⌜ (member r p ≡ false → (q : ℕ) → q < stateLimit → setAt (now (alike .entry)) p q ≡ false) ⌝ }
+{
+    if is_empty(StateSet::read(alike, p)) {
+        return rows;
+    }
+    rows.with(p)
+}
+
+// The rows to which some state is alike. The others have nothing left to be told apart from.
+fn open_rows(alike: &[u64], n: usize) -> StateSet
+    requires { ⌜ (n ≤ stateLimit)
+        × (n * 2 ≤ length (now alike)) ⌝ }
+    ensures { λ r. ⌜ Idle n (member r) (now (alike .entry)) ⌝ }
+{
+    let mut opened = StateSet::empty();
+    let mut p = 0;
+    while p < n {
+        opened = open_row(alike, p, opened);
+        p += 1;
+    }
+    opened
 }
 
 // The round after r: from the fresh pairs, which are at r, to those at r + 1, each fresh pair once. The rows are those
@@ -290,6 +390,7 @@ fn spread(
         → Layer g ends (suc r) (now (square .exit)) (now (alike .exit)) (now (next .exit)) (member after)
         × Empty (g .states) (now (fresh .exit))) ⌝ }
 {
+    let opened = open_rows(alike, n);
     let mut found = StateSet::empty();
     let mut left = rows;
     loop {
@@ -299,7 +400,19 @@ fn spread(
         }
         let front = StateSet::read(fresh, x);
         StateSet::empty().write(fresh, x);
-        found = spread_state(square, alike, next, predecessors, n, k, x, front, r, found);
+        found = spread_state(
+            square,
+            alike,
+            next,
+            predecessors,
+            n,
+            k,
+            opened,
+            x,
+            front,
+            r,
+            found,
+        );
         left = left.without(x);
     }
 }

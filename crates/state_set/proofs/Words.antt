@@ -1,19 +1,22 @@
 -- Two words as one set: what holds of each word's bits holds of the states.
 use mathlib.Core.Path.{_≡_, refl, sym, ap, _∙_}
-use mathlib.Core.Bool.{Bool, false, _&&_, _||_, and-false, or-false}
+use mathlib.Core.Bool.{Bool, false, not, _&&_, _||_, and-false, or-false}
 use mathlib.Core.List.{List}
 use mathlib.Core.Logic.{⊎-elim}
-use Prim.Native.Nat.{ℕ, _+_, _-_, _*_, _^_, _≤_, _<_, zero-le}
+use Prim.Native.Nat.{ℕ, _+_, _-_, _*_, _%_, _^_, _≤_, _<_, zero-le}
+use native.Mathlib.Nat.{mod-lt}
 use native.Mathlib.Omega.{arith}
-use lib.Dec.{eqb, ltb}
+use lib.Dec.{eqb, leb, ltb}
 use lib.ListN.{length, getD, set, replicate, length-set, getD-replicate}
 use lib.Seq.{getD-set-same, getD-set-other}
+use lib.Bits.{bitAnd}
 use lib.Count.{ones, trailingZeros}
-use borrow.Author.Tests.{eq-eqb, ne-eqb, eqb-true, lt-ltb, le-ltb}
+use borrow.Author.Tests.{eq-eqb, ne-eqb, eqb-true, lt-ltb, le-ltb, le-leb, lt-leb}
 use Rattle.theory.specs.Below.{count, first}
-use Rattle.theory.proofs.Below.{both-ways, lt-or-le, count-same, count-joined, first-is, first-le, first-below, first-here, first-lower, first-upper}
-use Rattle.theory.proofs.Bits.{bit-empty, bit-high, ones-count, zeros-first, zeros-less}
-use Rattle.state_set.specs.Member.{inWord, inWords, setAt, Put}
+use Rattle.theory.proofs.Below.{both-ways, lt-or-le, count-same, count-joined, first-is, first-le, first-below, first-here}
+use Rattle.theory.proofs.Below.{first-lower, first-upper, first-shift}
+use Rattle.theory.proofs.Bits.{bit-empty, bit-high, bit-minus, bit-one, ones-count, zeros-first, zeros-less}
+use Rattle.state_set.specs.Member.{inWord, inWords, inPart, setAt, Put}
 
 module _ (low high : ℕ) where
   pub low-at : (q : ℕ) → q < 64 → inWords low high q ≡ inWord low q
@@ -125,3 +128,54 @@ set-written words i low high l = record {
 
 pub set-none : (size i q : ℕ) → i * 2 + 1 < size → setAt (replicate size 0) i q ≡ false
 set-none size i q l = rw (getD-replicate {A = ℕ} size (i * 2) 0 0 (omega (arith, l)), getD-replicate {A = ℕ} size (i * 2 + 1) 0 0 l) (words-none q)
+
+-- ---- one word
+
+-- the words of a set as parts of it
+pub low-part : (low high q : ℕ) → low < 2 ^ 64 → inPart 0 low q ≡ (ltb q 64 && inWords low high q)
+unfolding inPart inWord
+low-part low high q h =
+    let e : q - 0 ≡ q = omega arith in
+    ⊎-elim
+    (λ (l : q < 64). rw (le-leb 0 q zero-le, e, lt-ltb q 64 l) (sym (low-at low high q l)))
+    (λ (l : 64 ≤ q). rw (le-leb 0 q zero-le, e, le-ltb q 64 l) (bit-high 64 low q h l))
+    (lt-or-le q 64)
+
+pub high-part : (low high q : ℕ) → inPart 64 high q ≡ (leb 64 q && inWords low high q)
+unfolding inPart
+high-part low high q =
+    ⊎-elim
+    (λ (l : q < 64). rw (lt-leb 64 q l))
+    (λ (l : 64 ≤ q). rw (le-leb 64 q l, high-from low high q l))
+    (lt-or-le q 64)
+
+module _ (from word : ℕ) where
+  -- a state of the word is `from` and the number of its bit
+  part-at : (i : ℕ) → inPart from word (from + i) ≡ inWord word i
+  unfolding inPart
+  part-at i = (let e : from + i - from ≡ i = omega arith in rw (le-leb from (from + i) (omega arith), e))
+
+  pub part-first : trailingZeros 64 word + from ≡ first (inPart from word) from 64
+  unfolding inWord
+  part-first = (let e = first-shift from 64 (inPart from word) (inWord word) part-at in let z = zeros-first 64 word in omega (arith, e, z))
+
+  pub part-past : word < 2 ^ 64 → (q : ℕ) → from + 64 ≤ q → inPart from word q ≡ false
+  unfolding inPart inWord
+  part-past h q l = rw (le-leb from q (omega (arith, l))) (bit-high 64 word (q - from) h (omega (arith, l)))
+
+  pub part-without : word < 2 ^ 64 → (q : ℕ) → from ≤ q → q < from + 64 → (p : ℕ)
+      → inPart from (bitAnd word (2 ^ 64 - 1 - (1 * 2 ^ (q - from)) % 2 ^ 64)) p ≡ (inPart from word p && not (eqb p q))
+  unfolding inPart inWord
+  part-without h q l m p =
+      ⊎-elim
+      (λ (b : p < from). rw (lt-leb from p b))
+      (λ (b : from ≤ p).
+      rw (le-leb from p b)
+      (bit-minus 64 word ((1 * 2 ^ (q - from)) % 2 ^ 64) h (mod-lt _ (omega arith)) (p - from)
+      ∙ rw (bit-one 64 (q - from) (omega (arith, l, m)) (p - from), same b)))
+      (lt-or-le p from)
+    where
+      same : from ≤ p → eqb (p - from) (q - from) ≡ eqb p q
+      same b = both-ways
+          (λ t. eq-eqb p q (let e = eqb-true (p - from) (q - from) t in omega (arith, e, l, b)))
+          (λ t. eq-eqb (p - from) (q - from) (let e = eqb-true p q t in omega (arith, e)))

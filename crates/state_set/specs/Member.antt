@@ -3,7 +3,7 @@ use mathlib.Core.Path.{_≡_}
 use mathlib.Core.Bool.{Bool, cond, _&&_}
 use mathlib.Core.List.{List}
 use Prim.Native.Nat.{ℕ, _+_, _-_, _*_, _/_, _%_, _^_}
-use lib.Dec.{eqb, ltb}
+use lib.Dec.{eqb, leb, ltb}
 use lib.ListN.{length, getD}
 use Rattle.state_set.specs.declared.StateSet.{StateSet}
 
@@ -17,6 +17,10 @@ inWords low high q = cond (ltb q 64) (inWord low q) (inWord high (q - 64))
 
 unfoldable pub member : StateSet → ℕ → Bool
 member s q = inWords (s .low) (s .high) q
+
+-- state q is in a word whose first bit stands for the state `from`
+unfoldable pub inPart : ℕ → ℕ → ℕ → Bool
+inPart from word q = leb from q && inWord word (q - from)
 
 -- the set holds the states below n that pass the test, and no other
 pub record Exactly (n : ℕ) (f : ℕ → Bool) (s : StateSet) : Type 0 where

@@ -2,17 +2,17 @@
 use theory::STATE_LIMIT;
 ghost use mathlib.Core.Path.{_≡_};
 ghost use mathlib.Core.Bool.{false, not, _&&_, _||_};
-ghost use Prim.Native.Nat.{ℕ, _+_, _*_, _<_};
-ghost use lib.Dec.{eqb, ltb};
+ghost use Prim.Native.Nat.{ℕ, _+_, _*_, _≤_, _<_};
+ghost use lib.Dec.{eqb, leb, ltb};
 ghost use lib.ListN.{length};
 ghost use Rattle.theory.specs.Below.{count, first};
 ghost use Rattle.theory.specs.Monitor.{stateLimit};
-ghost use Rattle.state_set.specs.Member.{member, setAt, Put};
+ghost use Rattle.state_set.specs.Member.{inPart, member, setAt, Put};
 
-// The words of a set, and the states that a word has.
+// The words of a set, and the states of a word.
 pub const WORDS: usize = 2;
 
-const WORD: usize = 64;
+pub const WORD: usize = 64;
 
 pub struct StateSet {
     low: u64,
@@ -44,6 +44,20 @@ impl StateSet {
     {
         words[i * WORDS] = self.low;
         words[i * WORDS + 1] = self.high;
+    }
+
+    // The states below 64, as a word.
+    pub fn low(self) -> u64
+        ensures { λ r. ⌜ ((q : ℕ) → inPart 0 r q ≡ (ltb q 64 && member self q)) ⌝ }
+    {
+        self.low
+    }
+
+    // The others, as a word whose first bit stands for 64.
+    pub fn high(self) -> u64
+        ensures { λ r. ⌜ ((q : ℕ) → inPart 64 r q ≡ (leb 64 q && member self q)) ⌝ }
+    {
+        self.high
     }
 
     // The set with q in it too. A q that is no state's number adds nothing.
@@ -127,4 +141,24 @@ impl StateSet {
     {
         u64::count_ones(self.low) as usize + u64::count_ones(self.high) as usize
     }
+}
+
+// ---- the states of one word, whose first bit stands for the state `from`
+
+// The lowest, or the state behind the last that the word can have.
+pub fn lowest_in(word: u64, from: usize) -> usize
+    requires { ⌜ from ≤ 64 ⌝ }
+    ensures first { λ r. ⌜ r ≡ first (inPart from word) from 64 ⌝ }
+    ensures last { λ _. ⌜ ((q : ℕ) → from + 64 ≤ q → inPart from word q ≡ false) ⌝ }
+{
+    u64::trailing_zeros(word) as usize + from
+}
+
+// The word without q.
+pub fn take_out(word: u64, from: usize, q: usize) -> u64
+    requires { ⌜ (from ≤ q)
+        × (q < from + 64) ⌝ }
+    ensures { λ r. ⌜ ((p : ℕ) → inPart from r p ≡ (inPart from word p && not (eqb p q))) ⌝ }
+{
+    word & !(1 << (q - from))
 }

@@ -121,12 +121,14 @@ bit-power (suc q) (suc p) = rw (bit-suc (2 ^ suc q) p, rest, eqb·suc-suc p q) (
     rest : 2 ^ suc q / 2 ≡ 2 ^ q
     rest = omega (arith, pow-suc 2 q)
 
--- `m | (1 << q)` on words of k digits
+-- `1 << q` on words of k digits
+pub bit-one : (k q : ℕ) → q < k → (p : ℕ) → bit ((1 * 2 ^ q) % 2 ^ k) p ≡ eqb p q
+bit-one k q l p = ap (λ (x : ℕ). bit x p) (shl-exact {a = 1} 1 q k (lit< tt) (omega arith) ∙ one-mul (2 ^ q)) ∙ bit-power q p
+
+-- `m | (1 << q)`
 pub bit-with : (k m q : ℕ) → q < k → (p : ℕ) → bit (bitOr m ((1 * 2 ^ q) % 2 ^ k)) p ≡ (bit m p || (eqb p q && ltb q k))
 bit-with k m q l p =
-    ap (λ (x : ℕ). bit (bitOr m x) p) (shl-exact {a = 1} 1 q k (lit< tt) (omega arith) ∙ one-mul (2 ^ q))
-    ∙ bit-or m (2 ^ q) p
-    ∙ ap (λ (x : Bool). bit m p || x) (bit-power q p ∙ rw (lt-ltb q k l, and-true))
+    bit-or m ((1 * 2 ^ q) % 2 ^ k) p ∙ ap (λ (x : Bool). bit m p || x) (bit-one k q l p ∙ rw (lt-ltb q k l, and-true))
 
 -- and a q past the word adds nothing
 pub bit-with-past : (k m q : ℕ) → k ≤ q → (p : ℕ) → bit m p ≡ (bit m p || (eqb p q && ltb q k))

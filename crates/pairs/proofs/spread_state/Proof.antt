@@ -5,22 +5,22 @@ use native.Mathlib.Omega.{arith}
 use borrow.Author.Needs.{needs}
 use Rattle.theory.specs.Automaton.{Automaton}
 use Rattle.state_set.specs.Member.{member}
-use Rattle.pairs.specs.Layers.{GoesAt, stateDone}
-use Rattle.pairs.proofs.Rounds.{Same, room-same, state-begins, state-more}
+use Rattle.pairs.specs.Layers.{Idle, GoesAt, stateDone}
+use Rattle.pairs.proofs.Rounds.{Same, room-same, idle-kept, state-begins, state-more}
 use Rattle.pairs.proofs.spread_state.Statement.{statement}
 use Rattle.pairs.proofs.spread_state.Tie as tie
 
 abbrev Inv-loop : tie.InvT-loop
-Inv-loop square₀ alike₀ next₀ predecessors n k x front r found₀ a₀ square alike next found a =
+Inv-loop square₀ alike₀ next₀ predecessors n k opened x front r found₀ a₀ square alike next found a =
     (a ≤ k) × Same square₀ alike₀ next₀ square alike next
-    × ((g : Automaton) → g .states ≡ n → g .symbols ≡ k
+    × ((g : Automaton) → g .states ≡ n → g .symbols ≡ k → Idle n (member opened) alike₀
     → GoesAt g r x (member front) (stateDone g x a) predecessors square₀ alike₀ next₀ (member found₀) square alike next (member found))
 
 abbrev μ-loop : tie.MeasureT-loop
-μ-loop square₀ alike₀ next₀ predecessors n k x front r found₀ a₀ square alike next found a = k - a
+μ-loop square₀ alike₀ next₀ predecessors n k opened x front r found₀ a₀ square alike next found a = k - a
 
 loop-holds : tie.Need-loop-holds Inv-loop μ-loop
-loop-holds c = (search needs, record { square-same = refl; alike-same = refl; other-same = refl }, λ g n e. state-begins g _ 0)
+loop-holds c = (search needs, record { square-same = refl; alike-same = refl; other-same = refl }, λ g n e idle. state-begins g _ 0)
 
 spread-symbol-requires : tie.Need-spread-symbol-requires Inv-loop μ-loop
 spread-symbol-requires c κs =
@@ -41,7 +41,9 @@ loop-again c =
         alike-same = c .before .before .before .alike .given ∙ same .alike-same;
         other-same = c .before .next .given ∙ same .other-same;
       },
-      λ g n e. state-more g _ (at .a) (at .inv .2 g n e) (c₅ .before .spread-symbol .ensures g n (omega (arith, l, e))),
+      λ g n e idle.
+          let before = at .inv .2 g n e idle in
+          state-more g _ (at .a) before (c₅ .before .spread-symbol .ensures g n (omega (arith, l, e)) (idle-kept idle (before .shrinks))),
     )
 
 same-length : tie.Need-same-length Inv-loop μ-loop

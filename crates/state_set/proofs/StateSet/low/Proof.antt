@@ -1,0 +1,13 @@
+-- The lower word.
+use native.Mathlib.Omega.{arith}
+use Rattle.state_set.specs.Member.{member}
+use Rattle.state_set.proofs.Words.{low-part}
+use Rattle.state_set.proofs.StateSet.low.Statement.{statement}
+use Rattle.state_set.proofs.StateSet.low.Tie as tie
+
+returns : tie.Need-returns
+unfolding member
+returns c = (let s = c .args .self in λ q. low-part (s .low) (s .high) q (omega arith))
+
+pub low-spec : {M : Type 1} → statement M
+low-spec = tie.close (tie.spec returns)
