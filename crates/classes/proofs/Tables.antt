@@ -10,7 +10,7 @@ use borrow.Author.Tests.{eq-eqb, lt-ltb, le-ltb}
 use Rattle.theory.specs.Below.{count}
 use Rattle.theory.specs.Automaton.{leads, reachedFrom}
 use Rattle.theory.specs.Answer.{answered}
-use Rattle.theory.specs.Monitor.{Monitor, WellFormed, marked, classFrom, class, weak, reached, uglyReached, monitorability, statesReached, stateLimit}
+use Rattle.theory.specs.Monitor.{Monitor, WellFormed, marked, classFrom, class, weak, reached, uglyReached, monitorability, statesReached}
 use Rattle.theory.proofs.Below.{any-same, any-short, count-same, count-short, count-any}
 use Rattle.theory.proofs.Reach.{hits-here, leads-complete}
 use Rattle.theory.proofs.Values.{filled, filled-same}
@@ -42,7 +42,7 @@ ugly-class {m = m} w q l =
     go (suc (suc zero)) e r t a f b = rw (sym b ∙ own 2 e) (sym (and-false (not t)))
     go (suc (suc (suc v))) e r t a f b = absurd (omega arith)
 
-module _ {n k s : ℕ} {vs ts : List ℕ} (table : Table stateLimit n k s vs ts) {t f : StateSet} (et : Exactly n (leads (automatonOf n k ts) (hasMark vs 1)) t)
+module _ {limit n k s : ℕ} {vs ts : List ℕ} (table : Table limit n k s vs ts) {t f : StateSet} (et : Exactly n (leads (automatonOf n k ts) (hasMark vs 1)) t)
     (ef : Exactly n (leads (automatonOf n k ts) (hasMark vs 2)) f) where
   pub class-by-is : (q : ℕ) → q < n → classBy vs t f q ≡ class (tableOf n k s vs ts) q
   unfolding class
@@ -52,39 +52,39 @@ module _ {n k s : ℕ} {vs ts : List ℕ} (table : Table stateLimit n k s vs ts)
   area-is area = filled-same (classBy vs t f) (class (tableOf n k s vs ts)) area (table .marks-length) class-by-is
 
   module _ {r : StateSet} (er : Exactly n (reachedFrom (automatonOf n k ts) s) r) where
-    reached-is : count stateLimit (member r) ≡ statesReached (tableOf n k s vs ts)
+    reached-is : count limit (member r) ≡ statesReached (tableOf n k s vs ts)
     unfolding statesReached
     reached-is =
-        count-short n stateLimit (member r) (table .rows .states-most) (λ q l _. exactly-out er q l)
+        count-short n limit (member r) (table .rows .states-most) (λ q l _. exactly-out er q l)
         ∙ count-same n (member r) (reached (tableOf n k s vs ts)) (exactly-in er)
 
     ugly-is : (q : ℕ) → q < n → uglyBy t f r q ≡ uglyReached (tableOf n k s vs ts) q
     ugly-is q l =
         rw (exactly-in er q l, exactly-in et q l, exactly-in ef q l, ugly-class (table .well-formed) q l) (and-assoc (reachedFrom (automatonOf n k ts) s q) _ _)
 
-    pub monitorability-is : monitorabilityBy vs t f r s ≡ monitorability (tableOf n k s vs ts)
+    pub monitorability-is : monitorabilityBy limit vs t f r s ≡ monitorability (tableOf n k s vs ts)
     unfolding monitorability
     monitorability-is =
         ap₂ (λ (b : Bool) (c : ℕ). cond b 3 (weak c))
-        (count-any stateLimit (uglyBy t f r)
-        ∙ any-short n stateLimit (uglyBy t f r) (table .rows .states-most) (λ q l _. rw (exactly-out er q l))
+        (count-any limit (uglyBy t f r)
+        ∙ any-short n limit (uglyBy t f r) (table .rows .states-most) (λ q l _. rw (exactly-out er q l))
         ∙ any-same n (uglyBy t f r) (uglyReached (tableOf n k s vs ts)) ugly-is)
         (class-by-is s (table .well-formed .start-in))
 
-    pub figures-are : {a b : ℕ} → a ≡ monitorabilityBy vs t f r s → b ≡ count stateLimit (member r)
+    pub figures-are : {a b : ℕ} → a ≡ monitorabilityBy limit vs t f r s → b ≡ count limit (member r)
         → answered (a ∷ b ∷ []) ≡ answered (classifyFigures (tableOf n k s vs ts))
     figures-are i j = ap₂ (λ (x y : ℕ). answered (x ∷ y ∷ [])) (i ∙ monitorability-is) (j ∙ reached-is)
 
 -- ---- the monitorability by two differences of sets and a count
 
-module _ (vs : List ℕ) (t f r rest ugly : StateSet) (s : ℕ) (d : (q : ℕ) → member rest q ≡ (member r q && not (member t q)))
+module _ (limit : ℕ) (vs : List ℕ) (t f r rest ugly : StateSet) (s : ℕ) (d : (q : ℕ) → member rest q ≡ (member r q && not (member t q)))
     (e : (q : ℕ) → member ugly q ≡ (member rest q && not (member f q)))
-    {a : ℕ} (c : a ≡ count stateLimit (member ugly)) where
-  ugly-count : a ≡ count stateLimit (uglyBy t f r)
-  ugly-count = c ∙ count-same stateLimit (member ugly) (uglyBy t f r) (λ q _. e q ∙ ap (λ (b : Bool). b && not (member f q)) (d q))
+    {a : ℕ} (c : a ≡ count limit (member ugly)) where
+  ugly-count : a ≡ count limit (uglyBy t f r)
+  ugly-count = c ∙ count-same limit (member ugly) (uglyBy t f r) (λ q _. e q ∙ ap (λ (b : Bool). b && not (member f q)) (d q))
 
-  pub some-ugly : 0 < a → 3 ≡ monitorabilityBy vs t f r s
-  some-ugly l = rw (lt-ltb 0 (count stateLimit (uglyBy t f r)) (omega (arith, l, ugly-count)))
+  pub some-ugly : 0 < a → 3 ≡ monitorabilityBy limit vs t f r s
+  some-ugly l = rw (lt-ltb 0 (count limit (uglyBy t f r)) (omega (arith, l, ugly-count)))
 
-  pub none-ugly : {w b : ℕ} → a ≤ 0 → w ≡ weak b → b ≡ classBy vs t f s → w ≡ monitorabilityBy vs t f r s
-  none-ugly l h g = rw (le-ltb 0 (count stateLimit (uglyBy t f r)) (omega (arith, l, ugly-count))) (h ∙ ap weak g)
+  pub none-ugly : {w b : ℕ} → a ≤ 0 → w ≡ weak b → b ≡ classBy vs t f s → w ≡ monitorabilityBy limit vs t f r s
+  none-ugly l h g = rw (le-ltb 0 (count limit (uglyBy t f r)) (omega (arith, l, ugly-count))) (h ∙ ap weak g)

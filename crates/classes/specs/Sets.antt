@@ -5,7 +5,7 @@ use Prim.Native.Nat.{ℕ}
 use lib.Dec.{ltb}
 use lib.ListN.{getD}
 use Rattle.theory.specs.Below.{count}
-use Rattle.theory.specs.Monitor.{classFrom, weak, stateLimit}
+use Rattle.theory.specs.Monitor.{classFrom, weak}
 use Rattle.state_set.specs.declared.StateSet.{StateSet}
 use Rattle.state_set.specs.Member.{member}
 
@@ -17,6 +17,6 @@ classBy vs t f q = classFrom (getD vs q 0) (member t q) (member f q)
 abbrev pub uglyBy : StateSet → StateSet → StateSet → ℕ → Bool
 uglyBy t f r q = member r q && not (member t q) && not (member f q)
 
--- the monitorability by these sets and the states reached
-abbrev pub monitorabilityBy : List ℕ → StateSet → StateSet → StateSet → ℕ → ℕ
-monitorabilityBy vs t f r s = cond (ltb 0 (count stateLimit (uglyBy t f r))) 3 (weak (classBy vs t f s))
+-- the monitorability by these sets and the states reached; `limit` is the greatest number of states
+abbrev pub monitorabilityBy : ℕ → List ℕ → StateSet → StateSet → StateSet → ℕ → ℕ
+monitorabilityBy limit vs t f r s = cond (ltb 0 (count limit (uglyBy t f r))) 3 (weak (classBy vs t f s))

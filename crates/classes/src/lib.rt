@@ -121,7 +121,7 @@ fn write_classes(marks: &[u8], outlook: Outlook, area: &mut [u8])
 fn monitorability_by(marks: &[u8], outlook: Outlook, reached: StateSet, start: usize) -> usize
     requires { ⌜ start < length (now marks) ⌝ }
     ensures { λ r. ⌜ r
-        ≡ monitorabilityBy (now (marks .entry)) (outlook .truth) (outlook .falsity) reached start ⌝ }
+        ≡ monitorabilityBy stateLimit (now (marks .entry)) (outlook .truth) (outlook .falsity) reached start ⌝ }
 {
     let truth = outlook.truth;
     let falsity = outlook.falsity;

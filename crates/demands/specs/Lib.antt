@@ -5,3 +5,4 @@ pub mod VerdictFall
 pub mod RoundTrip
 pub mod TrustedVerdicts
 pub mod SettledMarks
+pub mod Limits

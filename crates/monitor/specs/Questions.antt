@@ -34,7 +34,7 @@ firstRevoking vs ts k = first (revokes vs ts k) 0 (length ts)
 abbrev pub question1 : List ℕ → Question
 question1 b = record { yes = leb 3 (length b); number = 1; place = length b }
 
--- "Is n from 1 to 64? 2, place 0." `limit` is the greatest number of states.
+-- "Is n from 1 to 128? 2, place 0", as 02, note 6 changes it: `limit` is the greatest number of states
 abbrev pub question2 : ℕ → List ℕ → Question
 question2 limit b = record { yes = leb 1 (statesOf b) && leb (statesOf b) limit; number = 2; place = 0 }
 

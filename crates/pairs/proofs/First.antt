@@ -79,7 +79,7 @@ module _ {test : Test} {outs : List ℕ} {p q : ℕ} {square fresh : List ℕ} w
   }
     where
       one : Entered (length outs) square p (λ x. eqb x q) 0 (set square (place p q) 0)
-      one = entered-one (length outs) square p q 0 small size lp lq
+      one = entered-one (length outs) square p q 0 small size lp (omega (arith, lq, small))
 
   -- it does not
   pub pair-alike : passing test outs p q ≡ false → PairBegun test outs p q square fresh square fresh

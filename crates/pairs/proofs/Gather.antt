@@ -3,22 +3,20 @@ use mathlib.Core.Path.{_≡_, refl, sym, ap, _∙_}
 use mathlib.Core.Bool.{Bool, true, false, cond, not, _&&_, _||_, and-false, or-false}
 use mathlib.Core.List.{List}
 use mathlib.Core.Logic.{⊎-elim}
-use Prim.Native.Nat.{ℕ, _+_, _*_, _≤_, _<_, zero-le}
+use Prim.Native.Nat.{ℕ, _+_, _*_, _/_, _≤_, _<_, zero-le}
 use native.Mathlib.Nat.{le-refl}
 use native.Mathlib.Omega.{arith}
-use lib.Dec.{eqb, leb, ltb}
+use lib.Dec.{eqb, ltb}
 use lib.ListN.{length, set, replicate, length-set, length-replicate, getD-replicate}
 use lib.Seq.{getD-set-same, getD-set-other}
-use borrow.Author.Tests.{eq-eqb, ne-eqb, eqb-true, eqb-false, lt-ltb, le-ltb, le-leb, lt-leb}
-use Rattle.theory.specs.Below.{first}
+use borrow.Author.Tests.{eq-eqb, ne-eqb, eqb-true, eqb-false, lt-ltb, le-ltb}
 use Rattle.theory.specs.Automaton.{Automaton, Closed}
 use Rattle.theory.specs.Monitor.{stateLimit, symbolLimit}
 use Rattle.theory.proofs.Below.{clash, lt-or-le}
-use Rattle.state_set.specs.Member.{setAt, Put}
+use Rattle.state_set.specs.Member.{isPart, setAt, Put}
 use Rattle.state_set.proofs.Words.{set-none}
 use Rattle.pairs.specs.Square.{place, HasRows, entry}
-use Rattle.pairs.specs.Layers.{Empty, Preceding, upTo, leading, Into, Joined, Entered, Unused}
-use Rattle.pairs.proofs.Visit.{lowest-in, lowest-none}
+use Rattle.pairs.specs.Layers.{Empty, Preceding, upTo, leading, Into, Entered, Unused}
 
 -- ---- the states below a number
 
@@ -158,68 +156,81 @@ module _ {g : Automaton} where
 
 -- ---- what leads into a set
 
--- what was gathered, and what leads into the states that are left, make what leads into the whole, beside what was there
-pub record Gathering (g : Automaton) (a : ℕ) (whole before into left : ℕ → Bool) : Type 0 where
-  pub at : (q : ℕ) → (into q || leading g a left q) ≡ (before q || leading g a whole q)
+-- what was gathered, and what leads into the states that are left, make what leads into the whole; of those that pass a test
+pub record Gathering (g : Automaton) (a : ℕ) (part whole into left : ℕ → Bool) : Type 0 where
+  pub at : (q : ℕ) → (into q || (part q && leading g a left q)) ≡ (part q && leading g a whole q)
 
-pub gathering-none : {g : Automaton} {a : ℕ} {whole before : ℕ → Bool} → Gathering g a whole before before whole
-gathering-none = record { at = λ q. refl }
+pub gathering-none : {g : Automaton} {a : ℕ} {part whole into : ℕ → Bool} → ((q : ℕ) → into q ≡ false) → Gathering g a part whole into whole
+gathering-none none = record { at = λ q. rw (none q) }
 
-module _ {g : Automaton} {a : ℕ} {sets : List ℕ} (P : Preceding g (λ p b. ltb p (g .states)) sets) (la : a < g .symbols)
-    {whole before into left : ℕ → Bool} (G : Gathering g a whole before into left) where
-  pub gathering-more : {y : ℕ} → left y ≡ true → y < g .states → {more into′ left′ : ℕ → Bool} → ((q : ℕ) → more q ≡ setAt sets (y * symbolLimit + a) q)
-      → ((q : ℕ) → into′ q ≡ (into q || more q)) → ((q : ℕ) → left′ q ≡ (left q && not (eqb q y))) → Gathering g a whole before into′ left′
-  gathering-more {y} hy ly im ii il = record {
+module _ {g : Automaton} {a : ℕ} {part whole into left : ℕ → Bool} (G : Gathering g a part whole into left) where
+  pub gathering-more : {sets : List ℕ} {y : ℕ} {more into′ left′ : ℕ → Bool} → Preceding g (λ p b. ltb p (g .states)) sets → a < g .symbols
+      → left y ≡ true → y < g .states → ((q : ℕ) → more q ≡ (part q && setAt sets (y * symbolLimit + a) q))
+      → ((q : ℕ) → into′ q ≡ (into q || more q)) → ((q : ℕ) → left′ q ≡ (left q && not (eqb q y))) → Gathering g a part whole into′ left′
+  gathering-more {y = y} P la hy ly im ii il = record {
     at = λ q.
         rw (ii q, im q, P .at y a q ly la, il (g .next q a))
-        (step (into q) (ltb q (g .states)) (eqb (g .next q a) y) (left (g .next q a))
+        (step (into q) (part q) (ltb q (g .states)) (eqb (g .next q a) y) (left (g .next q a))
         (λ h. (let e = eqb-true (g .next q a) y h in rw e hy)))
         ∙ G .at q;
   }
     where
-      step : (i l e f : Bool) → (e ≡ true → f ≡ true) → ((i || (l && e)) || (l && (f && not e))) ≡ (i || (l && f))
-      step true l e f h = refl
-      step false false e f h = refl
-      step false true true true h = refl
-      step false true true false h = sym (h refl)
-      step false true false true h = refl
-      step false true false false h = refl
+      step : (i c l e f : Bool) → (e ≡ true → f ≡ true) → ((i || (c && (l && e))) || (c && (l && (f && not e)))) ≡ (i || (c && (l && f)))
+      step true c l e f h = refl
+      step false false l e f h = refl
+      step false true false e f h = refl
+      step false true true true true h = refl
+      step false true true true false h = sym (h refl)
+      step false true true false true h = refl
+      step false true true false false h = refl
 
-  pub gathering-all : Closed g → ((q : ℕ) → q < g .states → left q ≡ false) → Joined g a whole before into
-  gathering-all c none = record { at = λ q. sym (or-false (into q)) ∙ ap (λ (b : Bool). into q || b) (sym (nothing q)) ∙ G .at q }
+  pub gathering-all : ((q : ℕ) → left q ≡ false) → Into g a part whole into
+  gathering-all none = record { at = λ q. sym (last (into q) (part q) (ltb q (g .states))) ∙ rw (← none (g .next q a)) (G .at q) }
     where
-      nothing : (q : ℕ) → leading g a left q ≡ false
-      nothing q =
-          ⊎-elim
-          (λ (lq : q < g .states). rw (lt-ltb q (g .states) lq) (none (g .next q a) (c .next-in q a lq la)))
-          (λ out. rw (le-ltb q (g .states) out))
-          (lt-or-le q (g .states))
+      last : (i c l : Bool) → (i || (c && (l && false))) ≡ i
+      last true c l = refl
+      last false true true = refl
+      last false true false = refl
+      last false false l = refl
 
 -- two words, one after the other
-pub joined-into : {g : Automaton} {a : ℕ} {set low high none some into : ℕ → Bool} → ((q : ℕ) → none q ≡ false)
-    → ((q : ℕ) → low q ≡ (ltb q 64 && set q)) → ((q : ℕ) → high q ≡ (leb 64 q && set q)) → Joined g a low none some → Joined g a high some into
-    → Into g a set into
-joined-into {g} {a} {set} bare L H A B = record {
+pub into-both : {g : Automaton} {a : ℕ} {part set low high some more into : ℕ → Bool} → Closed g → a < g .symbols → g .states ≤ stateLimit
+    → ((q : ℕ) → low q ≡ (isPart 0 q && set q)) → ((q : ℕ) → high q ≡ (isPart 1 q && set q)) → ((q : ℕ) → into q ≡ (some q || more q))
+    → Into g a part low some → Into g a part high more → Into g a part set into
+into-both {g} {a} {part} {set} closed la few L H is A B = record {
   at = λ q.
-      B .at q ∙ rw (A .at q, bare q, L (g .next q a), H (g .next q a))
+      is q ∙ rw (A .at q, B .at q, L (g .next q a), H (g .next q a))
       (⊎-elim
-      (λ (l : g .next q a < 64). rw (lt-ltb (g .next q a) 64 l, lt-leb 64 (g .next q a) l) (one (ltb q (g .states)) (set (g .next q a))))
-      (λ (l : 64 ≤ g .next q a). rw (le-ltb (g .next q a) 64 l, le-leb 64 (g .next q a) l) (other (ltb q (g .states)) (set (g .next q a))))
-      (lt-or-le (g .next q a) 64));
+      (λ (lq : q < g .states). rw (lt-ltb q (g .states) lq) (either q (closed .next-in q a lq la)))
+      (λ out. rw (le-ltb q (g .states) out) (none (part q)))
+      (lt-or-le q (g .states)));
 }
   where
-    one : (b c : Bool) → ((b && c) || (b && false)) ≡ (b && c)
-    one true c = or-false c
-    one false c = refl
+    none : (c : Bool) → ((c && false) || (c && false)) ≡ (c && false)
+    none true = refl
+    none false = refl
 
-    other : (b c : Bool) → ((b && false) || (b && c)) ≡ (b && c)
-    other true c = refl
-    other false c = refl
+    one : (c b : Bool) → ((c && b) || (c && false)) ≡ (c && b)
+    one true b = or-false b
+    one false b = refl
+
+    other : (c b : Bool) → ((c && false) || (c && b)) ≡ (c && b)
+    other true b = refl
+    other false b = refl
+
+    either : (q : ℕ) → g .next q a < g .states
+        → ((part q && (isPart 0 (g .next q a) && set (g .next q a))) || (part q && (isPart 1 (g .next q a) && set (g .next q a)))) ≡ (part q && set (g .next q a))
+    either q l =
+        let z = g .next q a in
+        ⊎-elim
+        (λ (b : z < 64). rw (eq-eqb (z / 64) 0 (omega (arith, b)), ne-eqb (z / 64) 1 (λ e. omega (arith, b, e))) (one (part q) (set z)))
+        (λ (b : 64 ≤ z). rw (ne-eqb (z / 64) 0 (λ e. omega (arith, b, e)), eq-eqb (z / 64) 1 (omega (arith, b, l, few))) (other (part q) (set z)))
+        (lt-or-le z 64)
 
 -- ---- the entries of a row
 
 -- one entry stored
-pub entered-one : (n : ℕ) (square : List ℕ) (p y d : ℕ) → n ≤ stateLimit → HasRows n square → p < n → y < n
+pub entered-one : (n : ℕ) (square : List ℕ) (p y d : ℕ) → n ≤ stateLimit → HasRows n square → p < n → y < stateLimit
     → Entered n square p (λ q. eqb q y) d (set square (place p y) d)
 entered-one n square p y d few size lp ly = record {
   size = length-set square (place p y) d;
@@ -228,7 +239,7 @@ entered-one n square p y d few size lp ly = record {
 }
   where
     by : (q : ℕ) (b : Bool) → eqb q y ≡ b → entry (set square (place p y) d) p q ≡ cond b d (entry square p q)
-    by q true h = (let e = eqb-true q y h in rw e (getD-set-same square (place p y) d 0 (omega (arith, few, size, lp, ly))))
+    by q true h = (let e = eqb-true q y h in rw e (getD-set-same square (place p y) d 0 (omega (arith, size, lp, ly))))
     by q false h = (let ne = eqb-false q y h in getD-set-other square (place p y) (place p q) d 0 (λ e. ne (omega (arith, e))))
 
 -- what is entered for the states that are left makes what is to be entered
@@ -240,34 +251,26 @@ pub record Entering (n : ℕ) (before : List ℕ) (p : ℕ) (whole : ℕ → Boo
 pub entering-none : {n : ℕ} {before : List ℕ} {p : ℕ} {whole : ℕ → Bool} {d : ℕ} → Entering n before p whole d before whole
 entering-none = record { size = refl; here = λ q l. refl; elsewhere = λ x q lx lq ne. refl }
 
-module _ {n : ℕ} {before : List ℕ} {p : ℕ} {whole : ℕ → Bool} {d : ℕ} {after : List ℕ} {left : ℕ → Bool} (E : Entering n before p whole d after left)
-    {y : ℕ} (ey : y ≡ first left 0 stateLimit) where
-  pub entering-more : {left′ : ℕ → Bool} → n ≤ stateLimit → HasRows n before → p < n → y < n
-      → ((q : ℕ) → left′ q ≡ (left q && not (eqb q y && ltb y stateLimit))) → Entering n before p whole d (set after (place p y) d) left′
-  entering-more {left′} few size lp ly is = record {
+module _ {n : ℕ} {before : List ℕ} {p : ℕ} {whole : ℕ → Bool} {d : ℕ} {after : List ℕ} {left : ℕ → Bool} (E : Entering n before p whole d after left) where
+  pub entering-more : {y : ℕ} {left′ : ℕ → Bool} → n ≤ stateLimit → HasRows n before → p < n → left y ≡ true → y < stateLimit
+      → ((q : ℕ) → left′ q ≡ (left q && not (eqb q y))) → Entering n before p whole d (set after (place p y) d) left′
+  entering-more {y} {left′} few size lp hy ly is = record {
     size = one .size ∙ E .size;
     here = λ q lq.
-        rw (is q, one .here q lq, lt-ltb y stateLimit below)
-        (step (entry after p q) (left q) (eqb q y) (λ h. (let e = eqb-true q y h in rw e (lowest-in left ey below))))
+        rw (is q, one .here q lq)
+        (step (entry after p q) (left q) (eqb q y) (λ h. (let e = eqb-true q y h in rw e hy)))
         ∙ E .here q lq;
     elsewhere = λ x q lx lq ne. one .elsewhere x q lx lq ne ∙ E .elsewhere x q lx lq ne;
   }
     where
-      below : y < stateLimit
-      below = omega (arith, ly, few)
-
       one : Entered n after p (λ q. eqb q y) d (set after (place p y) d)
       one = entered-one n after p y d few (rw (E .size) size) lp ly
 
-      step : (i : ℕ) (f e : Bool) → (e ≡ true → f ≡ true) → cond (f && not (e && true)) d (cond e d i) ≡ cond f d i
+      step : (i : ℕ) (f e : Bool) → (e ≡ true → f ≡ true) → cond (f && not e) d (cond e d i) ≡ cond f d i
       step i true true h = refl
       step i true false h = refl
       step i false true h = absurd (clash (h refl) refl)
       step i false false h = refl
 
-  pub entering-all : n ≤ y → Entered n before p whole d after
-  entering-all l = record {
-    size = E .size;
-    here = λ q lq. sym (rw (lowest-none left ey l q lq)) ∙ E .here q lq;
-    elsewhere = E .elsewhere;
-  }
+  pub entering-all : ((q : ℕ) → left q ≡ false) → Entered n before p whole d after
+  entering-all none = record { size = E .size; here = λ q lq. sym (rw (none q)) ∙ E .here q lq; elsewhere = E .elsewhere }

@@ -1,9 +1,9 @@
 -- From the pairs at distance r to those at r + 1, and what holds when none is left.
 use mathlib.Core.Path.{_≡_, refl, sym, _∙_, subst}
-use mathlib.Core.Bool.{Bool, true, false, not, _&&_, _||_, and-true, or-false}
+use mathlib.Core.Bool.{Bool, true, false, cond, not, _&&_, _||_, and-true, or-false}
 use mathlib.Core.List.{List}
 use mathlib.Core.Logic.{_⊎_, inl, inr, ⊎-elim}
-use Prim.Native.Nat.{ℕ, zero, suc, _+_, _*_, _≤_, _<_}
+use Prim.Native.Nat.{ℕ, zero, suc, _+_, _*_, _/_, _≤_, _<_}
 use native.Mathlib.Nat.{le-refl}
 use native.Mathlib.Omega.{arith}
 use lib.Dec.{eqb, leb, ltb}
@@ -16,9 +16,9 @@ use Rattle.theory.specs.Pairs.{Tells, told}
 use Rattle.theory.specs.Extent.{Shortest}
 use Rattle.theory.proofs.Below.{clash, not-clash, both-ways, lt-or-le, or-cases, or-left, or-right, and-left, and-right, and-both, any-at, any-find}
 use Rattle.theory.proofs.Pairs.{onward, told-sound, told-complete, told-more, told-up, still-ever, told-settled}
-use Rattle.state_set.specs.Member.{setAt, Put}
+use Rattle.state_set.specs.Member.{isPart, setAt, Put, PutPart}
 use Rattle.pairs.specs.Square.{never, entry, Noted, Squared}
-use Rattle.pairs.specs.Layers.{Empty, Preceding, Into, Entered, Ground, Kept, Layer, Front, Midway, Idle, GoesAt, rowDone}
+use Rattle.pairs.specs.Layers.{Empty, Preceding, leading, Into, Entered, Ground, Kept, Layer, Front, Active, Retired, Midway, GoesAt, rowDone}
 
 -- ---- pairs told apart within a number of symbols
 
@@ -74,12 +74,13 @@ told-alike {g} {ends} G r p a q {square = square} K lp la lq t e =
     (told-self g ends (G .closed) (G .self) r (g .next p a) (G .closed .next-in p a lp la)) in
     K .alike-is p q lp ∙ rw (lt-ltb q (g .states) lq, ne-eqb q p other, eq-eqb (entry square p q) never e)
 
--- a row that no state is alike to is done
-pub idle-done : {g : Automaton} {ends : ℕ → ℕ → Bool} {predecessors : List ℕ} → Ground g ends predecessors → {r : ℕ} {done : ℕ → ℕ → Bool}
-    {square alike next : List ℕ} {rows : ℕ → Bool} → Midway g ends r done square alike next rows → {opened : ℕ → Bool} → Idle (g .states) opened alike
-    → Midway g ends r (λ p a. done p a || not (opened p)) square alike next rows
-idle-done {g} {ends} G {r} {done} {square} M {opened} I = record {
+-- what a row that is not active for a part of the columns has there is done
+pub retired-done : {g : Automaton} {ends : ℕ → ℕ → Bool} {predecessors : List ℕ} → Ground g ends predecessors → {r : ℕ} {done : ℕ → ℕ → ℕ → Bool}
+    {square alike next active : List ℕ} {rows : ℕ → Bool} → Midway g ends r done square alike next active rows
+    → Midway g ends r (λ p q a. done p q a || not (setAt active (q / 64) p)) square alike next active rows
+retired-done {g} {ends} G {r} {done} {square} {active = active} M = record {
   kept = M .kept;
+  active-rows = M .active-rows;
   old = M .old;
   known = M .known;
   new = M .new;
@@ -88,16 +89,16 @@ idle-done {g} {ends} G {r} {done} {square} M {opened} I = record {
       (λ o. M .covered p q a lp lq la o t)
       (λ o. ⊎-elim
       (λ l. l)
-      (λ e. absurd (clash (told-alike G r p a q (M .kept) lp la lq t e) (I .at p q lp lq (not-true (opened p) o))))
+      (λ e. absurd (clash (M .active-rows .at p q lp (told-alike G r p a q (M .kept) lp la lq t e)) (not-true (setAt active (q / 64) p) o)))
       (M .known p q lp lq))
-      (or-cases (done p a) (not (opened p)) d);
+      (or-cases (done p q a) (not (setAt active (q / 64) p)) d);
 }
 
 -- ---- one row with one symbol
 
 module _ {g : Automaton} {ends : ℕ → ℕ → Bool} {predecessors : List ℕ} (G : Ground g ends predecessors) {r : ℕ} (fits : r + 1 < never)
     {p a : ℕ} (lp : p < g .states) (la : a < g .symbols) {front : ℕ → Bool} (F : Front g ends r (g .next p a) front)
-    {done : ℕ → ℕ → Bool} {square alike next : List ℕ} {rows : ℕ → Bool} (M : Midway g ends r done square alike next rows) where
+    {done : ℕ → ℕ → ℕ → Bool} {square alike next active : List ℕ} {rows : ℕ → Bool} (M : Midway g ends r done square alike next active rows) where
   abbrev n : ℕ
   n = g .states
 
@@ -115,54 +116,57 @@ module _ {g : Automaton} {ends : ℕ → ℕ → Bool} {predecessors : List ℕ}
       let z = and-right (ltb q n && not (eqb q p)) (eqb (entry square p q) never) x in
       (ltb-true q n (and-left (ltb q n) (not (eqb q p)) y), eqb-true (entry square p q) never z)
 
-  module _ (square′ : List ℕ) where
+  module _ (part : ℕ → Bool) (square′ : List ℕ) where
     -- what is done is done, and p with a as well
     done-also : ((x q : ℕ) → x < n → q < n → entry square x q ≤ suc r → entry square′ x q ≤ suc r)
-        → ((q : ℕ) → q < n → reached q → entry square′ p q ≤ suc r)
-        → (x q b : ℕ) → x < n → q < n → b < g .symbols → (done x b || rowDone p a x b) ≡ true
+        → ((q : ℕ) → q < n → part q ≡ true → reached q → entry square′ p q ≤ suc r)
+        → (x q b : ℕ) → x < n → q < n → b < g .symbols → (done x q b || rowDone part p a x q b) ≡ true
         → told g ends r (g .next x b) (g .next q b) ≡ true → entry square′ x q ≤ suc r
     done-also keeps here x q b lx lq lb d t =
         ⊎-elim
         (λ o. keeps x q lx lq (M .covered x q b lx lq lb o t))
-        (λ i.
+        (λ h.
+        let i = and-right (part q) (eqb x p && eqb b a) h in
         let ex = eqb-true x p (and-left (eqb x p) (eqb b a) i) in
         let eb = eqb-true b a (and-right (eqb x p) (eqb b a) i) in
-        rw ex (here q lq (rw (← ex, ← eb) t)))
-        (or-cases (done x b) (rowDone p a x b) d)
+        rw ex (here q lq (and-left (part q) (eqb x p && eqb b a) h) (rw (← ex, ← eb) t)))
+        (or-cases (done x q b) (rowDone part p a x q b) d)
 
   -- nothing is added: no state alike to p is reached
-  pub spread-nothing : ((q : ℕ) → q < n → setAt alike p q ≡ true → reached q → ⊥)
-      → Midway g ends r (λ q b. done q b || rowDone p a q b) square alike next rows
-  spread-nothing nothing = record {
+  pub spread-nothing : (part : ℕ → Bool) → ((q : ℕ) → q < n → part q ≡ true → setAt alike p q ≡ true → reached q → ⊥)
+      → Midway g ends r (λ x q b. done x q b || rowDone part p a x q b) square alike next active rows
+  spread-nothing part nothing = record {
     kept = M .kept;
+    active-rows = M .active-rows;
     old = M .old;
     known = M .known;
     new = M .new;
-    covered = done-also square (λ x q _ _ l. l)
-        (λ q lq t. ⊎-elim (λ l. l) (λ e. absurd (nothing q lq (is-alike q lq t e) t)) (M .known p q lp lq));
+    covered = done-also part square (λ x q _ _ l. l)
+        (λ q lq c t. ⊎-elim (λ l. l) (λ e. absurd (nothing q lq c (is-alike q lq t e) t)) (M .known p q lp lq));
   }
 
-  module _ {into new : ℕ → Bool} (I : Into g a front into) (N : (q : ℕ) → new q ≡ (setAt alike p q && into q)) where
+  module _ {part into new : ℕ → Bool} (I : Into g a part front into) (N : (q : ℕ) → new q ≡ (setAt alike p q && into q)) where
     into-reached : (q : ℕ) → q < n → into q ≡ true → reached q
-    into-reached q lq t = F .sound (g .next q a) (and-right (ltb q n) (front (g .next q a)) (sym (I .at q) ∙ t)) .1
+    into-reached q lq t =
+        F .sound (g .next q a) (and-right (ltb q n) (front (g .next q a)) (and-right (part q) (leading g a front q) (sym (I .at q) ∙ t))) .1
 
-    reached-into : (q : ℕ) → q < n → reached q → (into q ≡ true) ⊎ (told g ends r p q ≡ true)
-    reached-into q lq t =
+    reached-into : (q : ℕ) → q < n → part q ≡ true → reached q → (into q ≡ true) ⊎ (told g ends r p q ≡ true)
+    reached-into q lq c t =
         ⊎-elim
-        (λ f. inl (I .at q ∙ and-both (ltb q n) (front (g .next q a)) (lt-ltb q n lq) f))
+        (λ f. inl (I .at q ∙ and-both (part q) (leading g a front q) c (and-both (ltb q n) (front (g .next q a)) (lt-ltb q n lq) f)))
         (λ s. inr (let e = s .1 in rw e (told-by g ends (s .0) p q a la (s .2))))
         (F .all (g .next q a) (G .closed .next-in q a lq la) t)
 
     -- a reached state alike to p is new
-    reached-new : (q : ℕ) → q < n → setAt alike p q ≡ true → reached q → new q ≡ true
-    reached-new q lq h t =
+    reached-new : (q : ℕ) → q < n → part q ≡ true → setAt alike p q ≡ true → reached q → new q ≡ true
+    reached-new q lq c h t =
         ⊎-elim
         (λ i. N q ∙ and-both (setAt alike p q) (into q) h i)
         (λ o. absurd (let e = alike-says q h .1 in clash o (M .old p q r lp lq (le-refl r) ∙ lt-leb (entry square p q) r (omega (arith, e, fits)))))
-        (reached-into q lq t)
+        (reached-into q lq c t)
 
-    pub spread-none : ((q : ℕ) → q < stateLimit → new q ≡ false) → Midway g ends r (λ q b. done q b || rowDone p a q b) square alike next rows
-    spread-none none = spread-nothing (λ q lq h t. clash (reached-new q lq h t) (none q (let m = G .small in omega (arith, lq, m))))
+    pub spread-none : ((q : ℕ) → new q ≡ false) → Midway g ends r (λ x q b. done x q b || rowDone part p a x q b) square alike next active rows
+    spread-none none = spread-nothing part (λ q lq c h t. clash (reached-new q lq c h t) (none q))
 
     new-says : (q : ℕ) → new q ≡ true → (q < n) × (entry square p q ≡ never) × (told g ends (suc r) p q ≡ true)
     new-says q t =
@@ -172,7 +176,7 @@ module _ {g : Automaton} {ends : ℕ → ℕ → Bool} {predecessors : List ℕ}
 
     module _ {square′ alike′ next′ : List ℕ} {rows′ : ℕ → Bool} (E : Entered n square p new (r + 1) square′)
         (A : Put alike p (λ q. setAt alike p q && not (new q)) alike′) (X : Put next p (λ q. setAt next p q || new q) next′)
-        (R : (q : ℕ) → rows′ q ≡ (rows q || (eqb q p && ltb p stateLimit))) (some : (q : ℕ) × (q < stateLimit) × (new q ≡ true)) where
+        (R : (q : ℕ) → rows′ q ≡ (rows q || (eqb q p && ltb p stateLimit))) (some : (q : ℕ) × (new q ≡ true)) where
       small-p : p < stateLimit
       small-p = (let m = G .small in omega (arith, lp, m))
 
@@ -254,7 +258,7 @@ module _ {g : Automaton} {ends : ℕ → ℕ → Bool} {predecessors : List ℕ}
             (λ o. (let s = M .kept .rows-some x o in (s .0, (s .1 .0, next-keeps x (s .1 .0) (s .1 .1)))))
             (λ h.
             let e = eqb-true x p (and-left (eqb x p) (ltb p stateLimit) h) in
-            (rw e lp, (some .0, rw e (X .here (some .0) ∙ or-right (setAt next p (some .0)) (new (some .0)) (some .2)))))
+            (rw e lp, (some .0, rw e (X .here (some .0) ∙ or-right (setAt next p (some .0)) (new (some .0)) (some .1)))))
             (or-cases (rows x) (eqb x p && ltb p stateLimit) (sym (R x) ∙ t));
         rows-all = λ x q lx t. go x q lx t (eqb x p) refl;
       }
@@ -265,9 +269,23 @@ module _ {g : Automaton} {ends : ℕ → ℕ → Bool} {predecessors : List ℕ}
           go x q lx t false h =
               R x ∙ or-left (rows x) (eqb x p && ltb p stateLimit) (M .kept .rows-all x q lx (sym (X .elsewhere x q (eqb-false x p h)) ∙ t))
 
-      pub spread-new : Midway g ends r (λ q b. done q b || rowDone p a q b) square′ alike′ next′ rows′
-      spread-new = record {
+      -- a state that is alike was so before
+      alike-before : (x q : ℕ) → setAt alike′ x q ≡ true → setAt alike x q ≡ true
+      alike-before x q t = go (eqb x p) refl
+        where
+          go : (b : Bool) → eqb x p ≡ b → setAt alike x q ≡ true
+          go true h = (let e = eqb-true x p h in rw e (and-left (setAt alike p q) (not (new q)) (sym (A .here q) ∙ rw e at t)))
+          go false h = sym (A .elsewhere x q (eqb-false x p h)) ∙ t
+
+      pub spread-new : {active′ : List ℕ}
+          → ((w x : ℕ) → setAt active w x ≡ true → (setAt active′ w x ≡ true) ⊎ ((x ≡ p) × ((q : ℕ) → isPart w q ≡ true → setAt alike′ p q ≡ false)))
+          → Midway g ends r (λ x q b. done x q b || rowDone part p a x q b) square′ alike′ next′ active′ rows′
+      spread-new O = record {
         kept = kept-after;
+        active-rows = record { at = λ x q lx t. ⊎-elim
+            (λ o. o)
+            (λ h. (let e = h .0 in absurd (clash (rw e at t) (h .1 q (eq-eqb (q / 64) (q / 64) refl)))))
+            (O (q / 64) x (M .active-rows .at x q lx (alike-before x q t))) };
         old = λ x q s lx lq ls. ⊎-elim
             (λ h.
             let e : entry square x q ≡ never = (let k = h .0 in rw k (new-says q (h .1) .1)) in
@@ -277,19 +295,19 @@ module _ {g : Automaton} {ends : ℕ → ℕ → Bool} {predecessors : List ℕ}
             (after x q lx lq);
         known = λ x q lx lq. ⊎-elim (λ h. inl (let z = h .2 in omega (arith, z))) (λ h. (let z = h .1 in rw z (M .known x q lx lq))) (after x q lx lq);
         new = λ x q lx lq e. ⊎-elim (λ h. rw (h .0) (new-says q (h .1) .2)) (λ h. M .new x q lx lq (sym (h .1) ∙ e)) (after x q lx lq);
-        covered = done-also square′ keeps here;
+        covered = done-also part square′ keeps here;
       }
         where
           keeps : (x q : ℕ) → x < n → q < n → entry square x q ≤ suc r → entry square′ x q ≤ suc r
           keeps x q lx lq l = ⊎-elim (λ h. (let z = h .2 in omega (arith, z))) (λ h. (let z = h .1 in omega (arith, z, l))) (after x q lx lq)
 
-          here : (q : ℕ) → q < n → reached q → entry square′ p q ≤ suc r
-          here q lq t =
+          here : (q : ℕ) → q < n → part q ≡ true → reached q → entry square′ p q ≤ suc r
+          here q lq c t =
               ⊎-elim
               (λ l. keeps p q lp lq l)
               (λ e. ⊎-elim
               (λ h. (let z = h .2 in omega (arith, z)))
-              (λ h. absurd (clash (reached-new q lq (is-alike q lq t e) t) (h .0 refl)))
+              (λ h. absurd (clash (reached-new q lq c (is-alike q lq t e) t) (h .0 refl)))
               (after p q lp lq))
               (M .known p q lp lq)
 
@@ -299,34 +317,55 @@ module _ {g : Automaton} {ends : ℕ → ℕ → Bool} {predecessors : List ℕ}
 pub put-as : {before after : List ℕ} {p : ℕ} (f h : ℕ → Bool) → Put before p f after → ((q : ℕ) → f q ≡ h q) → Put before p h after
 put-as f h P e = record { size = P .size; here = λ q. P .here q ∙ e q; elsewhere = P .elsewhere }
 
-module _ {g : Automaton} {p a r : ℕ} (fits : r + 1 < never) (lp : p < g .states) (la : a < g .symbols) {front : ℕ → Bool}
-    {sets square alike next : List ℕ} {rows : ℕ → Bool} where
-  module _ {into new : ℕ → Bool}
-      (I : Closed g → Preceding g (λ x b. ltb x (g .states)) sets → Into g a front into)
-      (N : (q : ℕ) → new q ≡ (setAt alike p q && into q)) where
-    pub row-none : ((q : ℕ) → q < stateLimit → new q ≡ false)
-        → GoesAt g r (g .next p a) front (rowDone p a) sets square alike next rows square alike next rows
-    row-none none = record {
-      goes = λ ends done G F M. spread-none G fits lp la F M (I (G .closed) (G .preceding)) N none;
-      shrinks = λ x q h. h;
-    }
+-- a word stored, of which the states of its part are known, is the set so changed
+pub put-part : {before after : List ℕ} {p w : ℕ} (f h : ℕ → Bool) → PutPart before p w f after
+    → ((q : ℕ) → isPart w q ≡ true → f q ≡ h q) → ((q : ℕ) → isPart w q ≡ false → setAt before p q ≡ h q) → Put before p h after
+put-part {before} {after} {p} {w} f h P inside outside = record { size = P .size; here = λ q. P .here q ∙ go q (isPart w q) refl; elsewhere = P .elsewhere }
+  where
+    go : (q : ℕ) (b : Bool) → isPart w q ≡ b → cond b (f q) (setAt before p q) ≡ h q
+    go q true e = inside q e
+    go q false e = outside q e
 
-    pub row-new : {square′ alike′ next′ : List ℕ} {left more rows′ : ℕ → Bool} → (q : ℕ) × (q < stateLimit) × (new q ≡ true)
+-- what is new, by a word of part w: the states alike to p that lead into the front, in the columns of that part and in no others
+new-is : {g : Automaton} {a : ℕ} {part front into : ℕ → Bool} → Into g a part front into → (alike new here : ℕ → Bool)
+    → ((q : ℕ) → here q ≡ (part q && alike q)) → ((q : ℕ) → new q ≡ (here q && into q)) → (q : ℕ) → new q ≡ (alike q && into q)
+new-is {g} {a} {part} {front} I alike new here H N q = N q ∙ rw (H q, I .at q) (go (part q) (alike q) (leading g a front q))
+  where
+    go : (b x y : Bool) → ((b && x) && (b && y)) ≡ (x && (b && y))
+    go true x y = refl
+    go false true y = refl
+    go false false y = refl
+
+new-outside : (part alike new here into : ℕ → Bool) → ((q : ℕ) → here q ≡ (part q && alike q)) → ((q : ℕ) → new q ≡ (here q && into q))
+    → (q : ℕ) → part q ≡ false → new q ≡ false
+new-outside part alike new here into H N q e = N q ∙ rw (H q, e)
+
+module _ (w : ℕ) {g : Automaton} (p a r : ℕ) (fits : r + 1 < never) (lp : p < g .states) (la : a < g .symbols) {front : ℕ → Bool}
+    {sets square alike next active : List ℕ} {rows : ℕ → Bool} where
+  module _ {into new here : ℕ → Bool} (I : Closed g → Preceding g (λ x b. ltb x (g .states)) sets → Into g a (isPart w) front into)
+      (H : (q : ℕ) → here q ≡ (isPart w q && setAt alike p q)) (N : (q : ℕ) → new q ≡ (here q && into q)) where
+    pub row-none : ((q : ℕ) → new q ≡ false)
+        → GoesAt g r (g .next p a) front (rowDone (isPart w) p a) sets square alike next active rows square alike next active rows
+    row-none none = record { goes = λ ends done G F M. spread-none G fits lp la F M (I (G .closed) (G .preceding)) (new-is (I (G .closed) (G .preceding)) (setAt alike p) new here H N) none }
+
+    pub row-new : {square′ alike′ next′ active′ : List ℕ} {left more old rows′ : ℕ → Bool} {word : ℕ} → (q : ℕ) × (new q ≡ true)
         → Entered (g .states) square p new (r + 1) square′
-        → Put alike p left alike′ → ((q : ℕ) → left q ≡ (setAt alike p q && not (new q)))
-        → Put next p more next′ → ((q : ℕ) → more q ≡ (setAt next p q || new q))
+        → PutPart alike p w left alike′ → ((q : ℕ) → left q ≡ (here q && not (new q)))
+        → PutPart next p w more next′ → ((q : ℕ) → more q ≡ (old q || new q)) → ((q : ℕ) → old q ≡ (isPart w q && setAt next p q))
+        → Retired p w word active active′ → (word ≡ 0 → (q : ℕ) → left q ≡ false)
         → ((q : ℕ) → rows′ q ≡ (rows q || (eqb q p && ltb p stateLimit)))
-        → GoesAt g r (g .next p a) front (rowDone p a) sets square alike next rows square′ alike′ next′ rows′
-    row-new {alike′ = alike′} some E A ea X ex R = record {
+        → GoesAt g r (g .next p a) front (rowDone (isPart w) p a) sets square alike next active rows square′ alike′ next′ active′ rows′
+    row-new {left = left} {more} {word = word} some E A ea X ex eo S none R = record {
       goes = λ ends done G F M.
-          spread-new G fits lp la F M (I (G .closed) (G .preceding)) N E
-          (put-as _ (λ q. setAt alike p q && not (new q)) A ea) (put-as _ (λ q. setAt next p q || new q) X ex) R some;
-      shrinks = λ x q h. fewer x q h (eqb x p) refl;
+          spread-new G fits lp la F M (I (G .closed) (G .preceding)) (new-is (I (G .closed) (G .preceding)) (setAt alike p) new here H N) E
+          (put-part left (λ q. setAt alike p q && not (new q)) A (λ q e. ea q ∙ rw (H q, e)) (λ q e. rw (new-outside (isPart w) (setAt alike p) new here into H N q e) (sym (and-true (setAt alike p q)))))
+          (put-part more (λ q. setAt next p q || new q) X (λ q e. ex q ∙ rw (eo q, e)) (λ q e. rw (new-outside (isPart w) (setAt alike p) new here into H N q e) (sym (or-false (setAt next p q)))))
+          R some
+          (λ u x t. ⊎-elim inl (λ h. inr (h .1, λ q e. A .here q ∙ gone u q (h .0) e (h .2))) (S .stays u x t));
     }
       where
-        fewer : (x q : ℕ) → setAt alike x q ≡ false → (b : Bool) → eqb x p ≡ b → setAt alike′ x q ≡ false
-        fewer x q h true t = (let e = eqb-true x p t in rw e (A .here q ∙ ea q ∙ rw (rw e at h)))
-        fewer x q h false t = A .elsewhere x q (eqb-false x p t) ∙ h
+        gone : (u q : ℕ) → u ≡ w → isPart u q ≡ true → word ≡ 0 → cond (isPart w q) (left q) (setAt alike p q) ≡ false
+        gone u q eu e ez = rw (rw eu at e) (none ez q)
 
 -- ---- a round
 
@@ -336,9 +375,10 @@ module _ {g : Automaton} {ends : ℕ → ℕ → Bool} {r : ℕ} {square alike f
   stage-entry p q lp lq t = leb-true (entry square p q) r (sym (L .stage p q lp lq .agrees r (le-refl r)) ∙ t)
 
   -- before the round no pair is at r + 1
-  pub layer-begins : {next : List ℕ} → r + 1 < never → Empty (g .states) next
-      → Midway g ends r (λ p a. false) square alike next (λ p. false)
-  layer-begins {next} fits N = record {
+  pub layer-begins : {next active : List ℕ} → r + 1 < never → Empty (g .states) next → Active (g .states) alike active
+      → Midway g ends r (λ p q a. false) square alike next active (λ p. false)
+  layer-begins {next} fits N O = record {
+    active-rows = O;
     kept = record {
       size = L .kept .size;
       alike-size = L .kept .alike-size;
@@ -381,8 +421,9 @@ module _ {g : Automaton} {ends : ℕ → ℕ → Bool} {r : ℕ} {square alike f
           inr (s, ez, L .stage x y lx ly .agrees s (omega (arith, ez)) ∙ le-leb (entry square x y) s below)
 
   -- the round is over when each row with each symbol that leads to a row with a fresh pair is done
-  pub layer-next : {done : ℕ → ℕ → Bool} {square′ alike′ next : List ℕ} {rows′ : ℕ → Bool} → Closed g → Midway g ends r done square′ alike′ next rows′
-      → ((p a : ℕ) → p < g .states → a < g .symbols → rows (g .next p a) ≡ true → done p a ≡ true)
+  pub layer-next : {done : ℕ → ℕ → ℕ → Bool} {square′ alike′ next active : List ℕ} {rows′ : ℕ → Bool} → Closed g
+      → Midway g ends r done square′ alike′ next active rows′
+      → ((p q a : ℕ) → p < g .states → q < g .states → a < g .symbols → rows (g .next p a) ≡ true → done p q a ≡ true)
       → Layer g ends (suc r) square′ alike′ next rows′
   layer-next {done} {square′} {alike′} {next} {rows′} c M all = record {
     kept = M .kept;
@@ -405,7 +446,7 @@ module _ {g : Automaton} {ends : ℕ → ℕ → Bool} {r : ℕ} {square alike f
           let lx = c .next-in p a lp la in
           let ly = c .next-in q a lq la in
           ⊎-elim
-          (λ f. M .covered p q a lp lq la (all p a lp la (L .kept .rows-all x y lx f)) t)
+          (λ f. M .covered p q a lp lq la (all p q a lp lq la (L .kept .rows-all x y lx f)) t)
           (λ s. (let e = s .1 in let l = within p q lp lq (rw e (told-by g ends (s .0) p q a la (s .2))) in omega (arith, l)))
           (layer-front x lx .all y ly t)
 

@@ -1,22 +1,23 @@
--- One symbol, one state and one round of the search: which rows and symbols are done.
+-- One symbol, one state and one round of the search: which rows, columns and symbols are done.
 use mathlib.Core.Path.{_≡_, refl, sym, _∙_}
 use mathlib.Core.Bool.{Bool, true, false, not, _&&_, _||_, and-true}
 use mathlib.Core.List.{List}
 use mathlib.Core.Logic.{_⊎_, inl, inr, ⊎-elim}
-use Prim.Native.Nat.{ℕ, suc, _+_, _*_, _≤_, _<_, zero-le}
+use Prim.Native.Nat.{ℕ, suc, _+_, _-_, _*_, _/_, _^_, _≤_, _<_, zero-le}
 use native.Mathlib.Omega.{arith}
-use lib.Dec.{eqb, leb, ltb}
-use lib.ListN.{length}
-use borrow.Author.Tests.{eq-eqb, eqb-true, eqb-false, lt-ltb, le-ltb, ltb-true, le-leb, not-true}
+use lib.Dec.{eqb, ltb}
+use lib.ListN.{length, getD}
+use borrow.Author.Tests.{eq-eqb, eqb-true, eqb-false, lt-ltb, le-ltb, ltb-true, not-true}
 use Rattle.theory.specs.Below.{first}
 use Rattle.theory.specs.Automaton.{Automaton}
 use Rattle.theory.specs.Monitor.{stateLimit, symbolLimit}
 use Rattle.theory.proofs.Below.{clash, not-clash, lt-or-le, or-cases, or-left, or-right, and-left, and-right, and-both}
-use Rattle.state_set.specs.Member.{setAt, Put}
-use Rattle.pairs.specs.Square.{never}
-use Rattle.pairs.specs.Layers.{Empty, Room, Ground, Layer, Front, Midway, Idle, GoesAt, rowDone, setDone, symbolDone, stateDone}
+use Rattle.state_set.specs.Member.{isPart, setAt, Put}
+use Rattle.state_set.proofs.Words.{words-full}
+use Rattle.pairs.specs.Square.{never, entry}
+use Rattle.pairs.specs.Layers.{Empty, Room, Ground, Layer, Front, Midway, Active, GoesAt, rowDone, setDone, symbolDone, blockDone, stateDone}
 use Rattle.pairs.proofs.Visit.{lowest-in, lowest-none, stays}
-use Rattle.pairs.proofs.Layers.{kept-rows, idle-done, layer-begins, layer-front, layer-next}
+use Rattle.pairs.proofs.Layers.{kept-rows, retired-done, layer-begins, layer-front, layer-next}
 
 -- ---- the arrays of a round keep their lengths
 
@@ -25,38 +26,99 @@ pub record Same (square₀ alike₀ other₀ square alike other : List ℕ) : Ty
   pub alike-same : length alike ≡ length alike₀
   pub other-same : length other ≡ length other₀
 
-pub room-same : {n : ℕ} {sets square₀ alike₀ next₀ square alike next : List ℕ} → Room n square₀ alike₀ next₀ sets
-    → Same square₀ alike₀ next₀ square alike next → Room n square alike next sets
-room-same R S = record {
+pub same-first : {square alike other : List ℕ} → Same square alike other square alike other
+same-first = record { square-same = refl; alike-same = refl; other-same = refl }
+
+pub same-then : {square₀ alike₀ other₀ square alike other square′ alike′ other′ : List ℕ} → Same square₀ alike₀ other₀ square alike other
+    → length square′ ≡ length square → length alike′ ≡ length alike → length other′ ≡ length other → Same square₀ alike₀ other₀ square′ alike′ other′
+same-then S es ea eo = record { square-same = es ∙ S .square-same; alike-same = ea ∙ S .alike-same; other-same = eo ∙ S .other-same }
+
+pub room-same : {n k : ℕ} {sets square₀ alike₀ next₀ active₀ square alike next active : List ℕ} → Room n k square₀ alike₀ next₀ active₀ sets
+    → Same square₀ alike₀ next₀ square alike next → length active ≡ length active₀ → Room n k square alike next active sets
+room-same R S e = record {
   few = R .few;
   rows = rw (S .square-same) (R .rows);
   alike-sets = rw (S .alike-same) (R .alike-sets);
   next-sets = rw (S .other-same) (R .next-sets);
+  active-sets = rw e (R .active-sets);
   predecessors-sets = R .predecessors-sets;
+  predecessors-in = R .predecessors-in;
 }
 
 -- between two rounds there is room
-pub room-of : {g : Automaton} {ends : ℕ → ℕ → Bool} {r : ℕ} {sets square alike fresh next : List ℕ} {rows : ℕ → Bool} → Ground g ends sets
-    → Layer g ends r square alike fresh rows → Empty (g .states) next → Room (g .states) square alike next sets
-room-of G L N = record {
+pub room-of : {g : Automaton} {ends : ℕ → ℕ → Bool} {r : ℕ} {sets square alike fresh next active : List ℕ} {rows : ℕ → Bool} → Ground g ends sets
+    → Layer g ends r square alike fresh rows → Empty (g .states) next → 4 ≤ length active → Room (g .states) (g .symbols) square alike next active sets
+room-of {g} G L N four = record {
   few = G .small;
   rows = L .kept .size;
   alike-sets = L .kept .alike-size;
   next-sets = N .size;
+  active-sets = four;
   predecessors-sets = G .preceding .size;
+  predecessors-in = λ x a p lx la t.
+      ltb-true p (g .states) (and-left (ltb p (g .states)) (eqb (g .next p a) x) (sym (G .preceding .at x a p lx la) ∙ t));
 }
 
+-- at first every row is active
+pub active-first : {g : Automaton} {ends : ℕ → ℕ → Bool} {r : ℕ} {square alike fresh : List ℕ} {rows : ℕ → Bool} → Layer g ends r square alike fresh rows
+    → g .states ≤ stateLimit → (active : List ℕ) → ((i : ℕ) → i < 4 → getD active i 0 ≡ 2 ^ 64 - 1) → Active (g .states) alike active
+active-first {g} {square = square} L few active full = record {
+  at = λ p q lp t.
+      let h = and-left (ltb q (g .states) && not (eqb q p)) (eqb (entry square p q) never) (sym (L .kept .alike-is p q lp) ∙ t) in
+      let lq = ltb-true q (g .states) (and-left (ltb q (g .states)) (not (eqb q p)) h) in
+      rw (full (q / 64 * 2) (omega (arith, lq, few)), full (q / 64 * 2 + 1) (omega (arith, lq, few)), lt-ltb p 128 (omega (arith, lp, few)))
+      (words-full p (omega (arith, lp, few)));
+}
+
+-- ---- steps of a round, one after the other
+
 -- where less is done, what is done stays
-pub midway-less : {g : Automaton} {ends : ℕ → ℕ → Bool} {r : ℕ} {done less : ℕ → ℕ → Bool} {square alike next : List ℕ} {rows : ℕ → Bool}
-    → Midway g ends r done square alike next rows
-    → ((p a : ℕ) → p < g .states → a < g .symbols → less p a ≡ true → done p a ≡ true) → Midway g ends r less square alike next rows
+midway-less : {g : Automaton} {ends : ℕ → ℕ → Bool} {r : ℕ} {done less : ℕ → ℕ → ℕ → Bool} {square alike next active : List ℕ} {rows : ℕ → Bool}
+    → Midway g ends r done square alike next active rows
+    → ((p q a : ℕ) → p < g .states → q < g .states → a < g .symbols → less p q a ≡ true → done p q a ≡ true)
+    → Midway g ends r less square alike next active rows
 midway-less M l = record {
   kept = M .kept;
+  active-rows = M .active-rows;
   old = M .old;
   known = M .known;
   new = M .new;
-  covered = λ p q a lp lq la d. M .covered p q a lp lq la (l p a lp la d);
+  covered = λ p q a lp lq la d. M .covered p q a lp lq la (l p q a lp lq la d);
 }
+
+module _ {g : Automaton} {r x : ℕ} {front : ℕ → Bool} {sets square₀ alike₀ next₀ active₀ : List ℕ} {rows₀ : ℕ → Bool} where
+  pub goes-less : {more : ℕ → ℕ → ℕ → Bool} (less : ℕ → ℕ → ℕ → Bool) {square alike next active : List ℕ} {rows : ℕ → Bool}
+      → GoesAt g r x front more sets square₀ alike₀ next₀ active₀ rows₀ square alike next active rows
+      → ((p q b : ℕ) → p < g .states → q < g .states → b < g .symbols → less p q b ≡ true → more p q b ≡ true)
+      → GoesAt g r x front less sets square₀ alike₀ next₀ active₀ rows₀ square alike next active rows
+  goes-less {more} less step l = record {
+    goes = λ ends done G F M.
+        midway-less (step .goes ends done G F M) (λ p q b lp lq lb t. ⊎-elim
+        (λ o. or-left (done p q b) (more p q b) o)
+        (λ h. or-right (done p q b) (more p q b) (l p q b lp lq lb h))
+        (or-cases (done p q b) (less p q b) t));
+  }
+
+  -- nothing is left to be done
+  pub goes-nowhere : (less : ℕ → ℕ → ℕ → Bool) → ((p q b : ℕ) → p < g .states → less p q b ≡ true → ⊥)
+      → GoesAt g r x front less sets square₀ alike₀ next₀ active₀ rows₀ square₀ alike₀ next₀ active₀ rows₀
+  goes-nowhere less none = record {
+    goes = λ ends done G F M. midway-less M (λ p q b lp lq lb t. ⊎-elim (λ o. o) (λ h. absurd (none p q b lp h)) (or-cases (done p q b) (less p q b) t));
+  }
+
+  pub goes-then : {more then : ℕ → ℕ → ℕ → Bool} {square alike next active square′ alike′ next′ active′ : List ℕ} {rows rows′ : ℕ → Bool}
+      → GoesAt g r x front more sets square₀ alike₀ next₀ active₀ rows₀ square alike next active rows
+      → GoesAt g r x front then sets square alike next active rows square′ alike′ next′ active′ rows′
+      → GoesAt g r x front (λ p q b. more p q b || then p q b) sets square₀ alike₀ next₀ active₀ rows₀ square′ alike′ next′ active′ rows′
+  goes-then {more} {then} first second = record {
+    goes = λ ends done G F M.
+        midway-less (second .goes ends (λ p q b. done p q b || more p q b) G F (first .goes ends done G F M))
+        (λ p q b lp lq lb t. by (done p q b) (more p q b) (then p q b) t);
+  }
+    where
+      by : (d m h : Bool) → (d || (m || h)) ≡ true → ((d || m) || h) ≡ true
+      by true m h t = refl
+      by false m h t = t
 
 -- the same states in front
 pub front-same : {g : Automaton} {ends : ℕ → ℕ → Bool} {r x : ℕ} {front other : ℕ → Bool} → Front g ends r x front → ((y : ℕ) → other y ≡ front y)
@@ -82,175 +144,168 @@ taken left left′ {y} is q h = go (left q) refl (eqb q y) refl
     go true e true k = inr (eqb-true q y k)
     go true e false k = absurd (clash (is q ∙ rw (e, k)) h)
 
--- rows that no state is alike to stay so
-pub idle-kept : {n : ℕ} {opened : ℕ → Bool} {alike alike′ : List ℕ} → Idle n opened alike
-    → ((p q : ℕ) → setAt alike p q ≡ false → setAt alike′ p q ≡ false) → Idle n opened alike′
-idle-kept I s = record { at = λ p q lp lq o. s p q (I .at p q lp lq o) }
-
 -- ---- the rows of a set with one symbol
 
 -- all but those left are done
-abbrev pub butLeft : (ℕ → Bool) → (ℕ → ℕ → Bool) → ℕ → ℕ → Bool
-butLeft left more p b = more p b && not (left p)
+abbrev pub butLeft : (ℕ → Bool) → (ℕ → ℕ → ℕ → Bool) → ℕ → ℕ → ℕ → Bool
+butLeft left more p q b = more p q b && not (left p)
 
--- a row from which a leads to x
-row-leads : (g : Automaton) (x a : ℕ) {ends : ℕ → ℕ → Bool} {sets : List ℕ} (y : ℕ) → setAt sets (x * symbolLimit + a) y ≡ true → x < g .states
-    → a < g .symbols → Ground g ends sets → g .next y a ≡ x
-row-leads g x a y h lx la G =
-    eqb-true (g .next y a) x (and-right (ltb y (g .states)) (eqb (g .next y a) x) (sym (G .preceding .at x a y lx la) ∙ h))
-
-module _ (g : Automaton) (x a : ℕ) {r : ℕ} {front : ℕ → Bool} {sets square₀ alike₀ next₀ : List ℕ} {rows₀ : ℕ → Bool} where
-  -- at the beginning all rows are left
-  pub set-begins : (set : ℕ → Bool)
-      → GoesAt g r x front (butLeft set (setDone set a)) sets square₀ alike₀ next₀ rows₀ square₀ alike₀ next₀ rows₀
-  set-begins set = record {
-    goes = λ ends done G F M.
-        midway-less M (λ p b lp lb t. ⊎-elim
-        (λ o. o)
-        (λ h. (let k = lost (setDone set a p b) (set p) h in absurd (clash (and-left (set p) (eqb b a) (k .0)) (k .1))))
-        (or-cases (done p b) (butLeft set (setDone set a) p b) t));
-    shrinks = λ p q h. h;
-  }
-
-  -- one row more
-  pub set-more : (set left left′ : ℕ → Bool) {y : ℕ} {square alike next square′ alike′ next′ : List ℕ} {rows rows′ : ℕ → Bool}
-      → setAt sets (x * symbolLimit + a) y ≡ true → x < g .states → a < g .symbols → ((q : ℕ) → left′ q ≡ (left q && not (eqb q y)))
-      → GoesAt g r x front (butLeft left (setDone set a)) sets square₀ alike₀ next₀ rows₀ square alike next rows
-      → GoesAt g r (g .next y a) front (rowDone y a) sets square alike next rows square′ alike′ next′ rows′
-      → GoesAt g r x front (butLeft left′ (setDone set a)) sets square₀ alike₀ next₀ rows₀ square′ alike′ next′ rows′
-  set-more set left left′ {y} inside lx la is before step = record {
-    goes = λ ends done G F M.
-        let e = row-leads g x a y inside lx la G in
-        midway-less (step .goes ends (λ p b. done p b || butLeft left (setDone set a) p b) G (rw e F) (before .goes ends done G F M))
-        (λ p b lp lb t. ⊎-elim
-        (λ o. or-left (done p b || butLeft left (setDone set a) p b) (rowDone y a p b) (or-left (done p b) (butLeft left (setDone set a) p b) o))
-        (λ h.
-        let k = lost (setDone set a p b) (left′ p) h in
-        ⊎-elim
-        (λ w. or-left (done p b || butLeft left (setDone set a) p b) (rowDone y a p b)
-        (or-right (done p b) (butLeft left (setDone set a) p b) (keep (k .0) w)))
-        (λ w. or-right (done p b || butLeft left (setDone set a) p b) (rowDone y a p b)
-        (and-both (eqb p y) (eqb b a) (eq-eqb p y w) (and-right (set p) (eqb b a) (k .0))))
-        (taken left left′ is p (k .1)))
-        (or-cases (done p b) (butLeft left′ (setDone set a) p b) t));
-    shrinks = λ p q h. step .shrinks p q (before .shrinks p q h);
-  }
-
-  pub set-ends : (set left : ℕ → Bool) {square alike next : List ℕ} {rows : ℕ → Bool} → ((p : ℕ) → p < g .states → left p ≡ false)
-      → GoesAt g r x front (butLeft left (setDone set a)) sets square₀ alike₀ next₀ rows₀ square alike next rows
-      → GoesAt g r x front (setDone set a) sets square₀ alike₀ next₀ rows₀ square alike next rows
-  set-ends set left none before = record {
-    goes = λ ends done G F M.
-        midway-less (before .goes ends done G F M) (λ p b lp lb t. ⊎-elim
-        (λ o. or-left (done p b) (butLeft left (setDone set a) p b) o)
-        (λ h. or-right (done p b) (butLeft left (setDone set a) p b) (keep h (none p lp)))
-        (or-cases (done p b) (setDone set a p b) t));
-    shrinks = before .shrinks;
-  }
-
-  -- ---- one symbol
-
-  -- the open rows from which a leads to x are those of the set, and they are done
-  pub symbol-done : (set opened : ℕ → Bool) {square alike next : List ℕ} {rows : ℕ → Bool} → x < g .states → a < g .symbols
-      → ((q : ℕ) → set q ≡ (setAt sets (x * symbolLimit + a) q && opened q)) → Idle (g .states) opened alike₀
-      → GoesAt g r x front (setDone set a) sets square₀ alike₀ next₀ rows₀ square alike next rows
-      → GoesAt g r x front (symbolDone g x a) sets square₀ alike₀ next₀ rows₀ square alike next rows
-  symbol-done set opened lx la is I step = record {
-    goes = λ ends done G F M.
-        midway-less (step .goes ends (λ p b. done p b || not (opened p)) G F (idle-done G M I)) (λ p b lp lb t. ⊎-elim
-        (λ o. or-left (done p b || not (opened p)) (setDone set a p b) (or-left (done p b) (not (opened p)) o))
-        (λ h.
-        let eb = and-right (eqb (g .next p b) x) (eqb b a) h in
-        let ab = eqb-true b a eb in
-        let ex = and-left (eqb (g .next p b) x) (eqb b a) h in
-        let at : setAt sets (x * symbolLimit + a) p ≡ true = G .preceding .at x a p lx la
-        ∙ and-both (ltb p (g .states)) (eqb (g .next p a) x) (lt-ltb p (g .states) lp) (rw (← ab) ex) in
-        by b (done p b) (opened p) refl (set p) (is p ∙ rw at) eb)
-        (or-cases (done p b) (symbolDone g x a p b) t));
-    shrinks = step .shrinks;
-  }
-    where
-      by : (b : ℕ) (d o : Bool) {o′ : Bool} → o′ ≡ o → (s : Bool) → s ≡ (true && o′) → eqb b a ≡ true → ((d || not o′) || (s && eqb b a)) ≡ true
-      by b d true {o′} e s h t = or-right (d || not o′) (s && eqb b a) (and-both s (eqb b a) (h ∙ e) t)
-      by b d false {o′} e s h t = or-left (d || not o′) (s && eqb b a) (or-right d (not o′) (rw e))
-
--- no row is in the set
-pub set-nothing : (g : Automaton) (x a : ℕ) (set : ℕ → Bool) {r : ℕ} {front : ℕ → Bool} {sets square alike next : List ℕ} {rows : ℕ → Bool}
-    → ((p : ℕ) → p < g .states → set p ≡ false) → GoesAt g r x front (setDone set a) sets square alike next rows square alike next rows
-set-nothing g x a set none = set-ends g x a set set none (set-begins g x a set)
-
--- two words, one after the other
-pub set-both : {g : Automaton} {r x : ℕ} (a : ℕ) {front : ℕ → Bool} {sets : List ℕ} (set low high : ℕ → Bool) {square₀ alike₀ next₀ : List ℕ} {rows₀ : ℕ → Bool}
-    {square alike next : List ℕ} {rows : ℕ → Bool} {square′ alike′ next′ : List ℕ} {rows′ : ℕ → Bool} → ((q : ℕ) → low q ≡ (ltb q 64 && set q))
-    → ((q : ℕ) → high q ≡ (leb 64 q && set q)) → GoesAt g r x front (setDone low a) sets square₀ alike₀ next₀ rows₀ square alike next rows
-    → GoesAt g r x front (setDone high a) sets square alike next rows square′ alike′ next′ rows′
-    → GoesAt g r x front (setDone set a) sets square₀ alike₀ next₀ rows₀ square′ alike′ next′ rows′
-set-both a set low high L H first then = record {
+-- the row of a predecessor of x is one with x
+goes-into : {g : Automaton} {r : ℕ} (x a : ℕ) {front : ℕ → Bool} {more : ℕ → ℕ → ℕ → Bool} {sets square alike next active square′ alike′ next′ active′ : List ℕ}
+    {rows rows′ : ℕ → Bool} (y : ℕ) → setAt sets (x * symbolLimit + a) y ≡ true → x < g .states → a < g .symbols
+    → GoesAt g r (g .next y a) front more sets square alike next active rows square′ alike′ next′ active′ rows′
+    → GoesAt g r x front more sets square alike next active rows square′ alike′ next′ active′ rows′
+goes-into {g} x a y h lx la step = record {
   goes = λ ends done G F M.
-      midway-less (then .goes ends (λ p b. done p b || setDone low a p b) G F (first .goes ends done G F M)) (λ p b lp lb t. ⊎-elim
-      (λ o. or-left (done p b || setDone low a p b) (setDone high a p b) (or-left (done p b) (setDone low a p b) o))
-      (λ h.
-      let s = and-left (set p) (eqb b a) h in
-      let e = and-right (set p) (eqb b a) h in
-      ⊎-elim
-      (λ (l : p < 64). or-left (done p b || setDone low a p b) (setDone high a p b)
-      (or-right (done p b) (setDone low a p b) (and-both (low p) (eqb b a) (L p ∙ rw (lt-ltb p 64 l, s)) e)))
-      (λ (l : 64 ≤ p). or-right (done p b || setDone low a p b) (setDone high a p b) (and-both (high p) (eqb b a) (H p ∙ rw (le-leb 64 p l, s)) e))
-      (lt-or-le p 64))
-      (or-cases (done p b) (setDone set a p b) t));
-  shrinks = λ p q h. then .shrinks p q (first .shrinks p q h);
+      let e = eqb-true (g .next y a) x (and-right (ltb y (g .states)) (eqb (g .next y a) x) (sym (G .preceding .at x a y lx la) ∙ h)) in
+      step .goes ends done G (rw e F) M;
 }
 
-module _ (g : Automaton) (x a : ℕ) {r : ℕ} {front : ℕ → Bool} {sets square₀ alike₀ next₀ : List ℕ} {rows₀ : ℕ → Bool} where
-  -- ---- one state
+module _ {g : Automaton} (x a : ℕ) {r : ℕ} {front : ℕ → Bool} {sets square₀ alike₀ next₀ active₀ : List ℕ} {rows₀ : ℕ → Bool} (columns set : ℕ → Bool) where
+  -- at the beginning all rows are left
+  pub set-begins : GoesAt g r x front (butLeft set (setDone columns set a)) sets square₀ alike₀ next₀ active₀ rows₀ square₀ alike₀ next₀ active₀ rows₀
+  set-begins = goes-nowhere (butLeft set (setDone columns set a)) (λ p q b lp t.
+      let k = lost (setDone columns set a p q b) (set p) t in
+      clash (and-left (set p) (eqb b a) (and-right (columns q) (set p && eqb b a) (k .0))) (k .1))
 
-  pub state-begins : GoesAt g r x front (stateDone g x 0) sets square₀ alike₀ next₀ rows₀ square₀ alike₀ next₀ rows₀
-  state-begins = record {
-    goes = λ ends done G F M.
-        midway-less M (λ p b lp lb t. ⊎-elim
-        (λ o. o)
-        (λ h. absurd (clash (and-right (eqb (g .next p b) x) (ltb b 0) h) (le-ltb b 0 zero-le)))
-        (or-cases (done p b) (stateDone g x 0 p b) t));
-    shrinks = λ p q h. h;
-  }
+  -- one row more
+  pub set-more : (left left′ : ℕ → Bool) (y : ℕ) {square alike next active square′ alike′ next′ active′ : List ℕ} {rows rows′ : ℕ → Bool}
+      → setAt sets (x * symbolLimit + a) y ≡ true → x < g .states → a < g .symbols → ((q : ℕ) → left′ q ≡ (left q && not (eqb q y)))
+      → GoesAt g r x front (butLeft left (setDone columns set a)) sets square₀ alike₀ next₀ active₀ rows₀ square alike next active rows
+      → GoesAt g r (g .next y a) front (rowDone columns y a) sets square alike next active rows square′ alike′ next′ active′ rows′
+      → GoesAt g r x front (butLeft left′ (setDone columns set a)) sets square₀ alike₀ next₀ active₀ rows₀ square′ alike′ next′ active′ rows′
+  set-more left left′ y inside lx la is before step =
+      goes-less (butLeft left′ (setDone columns set a)) (goes-then before (goes-into x a y inside lx la step)) (λ p q b lp lq lb t.
+      let k = lost (setDone columns set a p q b) (left′ p) t in
+      ⊎-elim
+      (λ w. or-left (butLeft left (setDone columns set a) p q b) (rowDone columns y a p q b) (keep (k .0) w))
+      (λ w. or-right (butLeft left (setDone columns set a) p q b) (rowDone columns y a p q b)
+      (and-both (columns q) (eqb p y && eqb b a) (and-left (columns q) (set p && eqb b a) (k .0))
+      (and-both (eqb p y) (eqb b a) (eq-eqb p y w) (and-right (set p) (eqb b a) (and-right (columns q) (set p && eqb b a) (k .0))))))
+      (taken left left′ is p (k .1)))
 
-  pub state-more : {square alike next square′ alike′ next′ : List ℕ} {rows rows′ : ℕ → Bool}
-      → GoesAt g r x front (stateDone g x a) sets square₀ alike₀ next₀ rows₀ square alike next rows
-      → GoesAt g r x front (symbolDone g x a) sets square alike next rows square′ alike′ next′ rows′
-      → GoesAt g r x front (stateDone g x (a + 1)) sets square₀ alike₀ next₀ rows₀ square′ alike′ next′ rows′
-  state-more before step = record {
-    goes = λ ends done G F M.
-        midway-less (step .goes ends (λ p b. done p b || stateDone g x a p b) G F (before .goes ends done G F M)) (λ p b lp lb t. ⊎-elim
-        (λ o. or-left (done p b || stateDone g x a p b) (symbolDone g x a p b) (or-left (done p b) (stateDone g x a p b) o))
-        (λ h.
-        let ex = and-left (eqb (g .next p b) x) (ltb b (a + 1)) h in
-        let l = ltb-true b (a + 1) (and-right (eqb (g .next p b) x) (ltb b (a + 1)) h) in
-        ⊎-elim
-        (λ (k : b < a). or-left (done p b || stateDone g x a p b) (symbolDone g x a p b)
-        (or-right (done p b) (stateDone g x a p b) (and-both (eqb (g .next p b) x) (ltb b a) ex (lt-ltb b a k))))
-        (λ k. or-right (done p b || stateDone g x a p b) (symbolDone g x a p b)
-        (and-both (eqb (g .next p b) x) (eqb b a) ex (eq-eqb b a (omega (arith, k, l)))))
-        (lt-or-le b a))
-        (or-cases (done p b) (stateDone g x (a + 1) p b) t));
-    shrinks = λ p q h. step .shrinks p q (before .shrinks p q h);
-  }
+  pub set-ends : (left : ℕ → Bool) {square alike next active : List ℕ} {rows : ℕ → Bool} → ((p : ℕ) → left p ≡ false)
+      → GoesAt g r x front (butLeft left (setDone columns set a)) sets square₀ alike₀ next₀ active₀ rows₀ square alike next active rows
+      → GoesAt g r x front (setDone columns set a) sets square₀ alike₀ next₀ active₀ rows₀ square alike next active rows
+  set-ends left none before = goes-less (setDone columns set a) before (λ p q b lp lq lb t. keep t (none p))
+
+  pub set-nothing : ((p : ℕ) → set p ≡ false)
+      → GoesAt g r x front (setDone columns set a) sets square₀ alike₀ next₀ active₀ rows₀ square₀ alike₀ next₀ active₀ rows₀
+  set-nothing none = set-ends set none set-begins
+
+-- ---- one symbol
+
+-- the active rows of part v from which a leads to x are those of the set, and they are done in the columns of part w
+pub symbol-done : {g : Automaton} (x a v w : ℕ) {r : ℕ} {front : ℕ → Bool} {sets square₀ alike₀ next₀ active₀ : List ℕ} {rows₀ : ℕ → Bool} (set : ℕ → Bool)
+    {square alike next active : List ℕ} {rows : ℕ → Bool} → x < g .states → a < g .symbols
+    → ((p : ℕ) → set p ≡ ((isPart v p && setAt sets (x * symbolLimit + a) p) && (isPart v p && setAt active₀ w p)))
+    → GoesAt g r x front (setDone (isPart w) set a) sets square₀ alike₀ next₀ active₀ rows₀ square alike next active rows
+    → GoesAt g r x front (symbolDone g x (isPart v) (isPart w) a) sets square₀ alike₀ next₀ active₀ rows₀ square alike next active rows
+symbol-done {g} x a v w {sets = sets} {active₀ = active₀} set lx la is step = record {
+  goes = λ ends done G F M.
+      midway-less (step .goes ends (λ p q b. done p q b || not (setAt active₀ (q / 64) p)) G F (retired-done G M)) (λ p q b lp lq lb t. ⊎-elim
+      (λ o. or-left (done p q b || not (setAt active₀ (q / 64) p)) (setDone (isPart w) set a p q b) (or-left (done p q b) (not (setAt active₀ (q / 64) p)) o))
+      (λ h.
+      let parts = and-left (isPart v p && isPart w q) (eqb (g .next p b) x && eqb b a) h in
+      let rest = and-right (isPart v p && isPart w q) (eqb (g .next p b) x && eqb b a) h in
+      let ep = and-left (isPart v p) (isPart w q) parts in
+      let eq = and-right (isPart v p) (isPart w q) parts in
+      let eb = and-right (eqb (g .next p b) x) (eqb b a) rest in
+      let ab = eqb-true b a eb in
+      let ex = and-left (eqb (g .next p b) x) (eqb b a) rest in
+      let at : setAt sets (x * symbolLimit + a) p ≡ true = G .preceding .at x a p lx la
+          ∙ and-both (ltb p (g .states)) (eqb (g .next p a) x) (lt-ltb p (g .states) lp) (rw (← ab) ex) in
+      let ew = eqb-true (q / 64) w eq in
+      by (done p q b) (isPart w q) (eqb b a) eq eb (setAt active₀ (q / 64) p) (set p) (is p ∙ rw (ep, at, ew)))
+      (or-cases (done p q b) (symbolDone g x (isPart v) (isPart w) a p q b) t));
+}
+  where
+    by : (d c e : Bool) → c ≡ true → e ≡ true → (o s : Bool) → s ≡ o → ((d || not o) || (c && (s && e))) ≡ true
+    by d c e tc te true s h = or-right (d || false) (c && (s && e)) (and-both c (s && e) tc (and-both s e h te))
+    by d c e tc te false s h = or-left (d || true) (c && (s && e)) (or-right d true refl)
+
+-- ---- one block
+
+module _ {g : Automaton} (x v w : ℕ) {r : ℕ} {front : ℕ → Bool} {sets square₀ alike₀ next₀ active₀ : List ℕ} {rows₀ : ℕ → Bool} where
+  pub block-begins : GoesAt g r x front (blockDone g x (isPart v) (isPart w) 0) sets square₀ alike₀ next₀ active₀ rows₀ square₀ alike₀ next₀ active₀ rows₀
+  block-begins = goes-nowhere (blockDone g x (isPart v) (isPart w) 0) (λ p q b lp t.
+      clash (and-right (eqb (g .next p b) x) (ltb b 0) (and-right (isPart v p && isPart w q) (eqb (g .next p b) x && ltb b 0) t)) (le-ltb b 0 zero-le))
+
+  pub block-more : (a : ℕ) {square alike next active square′ alike′ next′ active′ : List ℕ} {rows rows′ : ℕ → Bool}
+      → GoesAt g r x front (blockDone g x (isPart v) (isPart w) a) sets square₀ alike₀ next₀ active₀ rows₀ square alike next active rows
+      → GoesAt g r x front (symbolDone g x (isPart v) (isPart w) a) sets square alike next active rows square′ alike′ next′ active′ rows′
+      → GoesAt g r x front (blockDone g x (isPart v) (isPart w) (a + 1)) sets square₀ alike₀ next₀ active₀ rows₀ square′ alike′ next′ active′ rows′
+  block-more a before step = goes-less (blockDone g x (isPart v) (isPart w) (a + 1)) (goes-then before step) (λ p q b lp lq lb t.
+      let parts = and-left (isPart v p && isPart w q) (eqb (g .next p b) x && ltb b (a + 1)) t in
+      let rest = and-right (isPart v p && isPart w q) (eqb (g .next p b) x && ltb b (a + 1)) t in
+      let ex = and-left (eqb (g .next p b) x) (ltb b (a + 1)) rest in
+      let l = ltb-true b (a + 1) (and-right (eqb (g .next p b) x) (ltb b (a + 1)) rest) in
+      ⊎-elim
+      (λ (k : b < a). or-left (blockDone g x (isPart v) (isPart w) a p q b) (symbolDone g x (isPart v) (isPart w) a p q b)
+      (and-both (isPart v p && isPart w q) (eqb (g .next p b) x && ltb b a) parts (and-both (eqb (g .next p b) x) (ltb b a) ex (lt-ltb b a k))))
+      (λ k. or-right (blockDone g x (isPart v) (isPart w) a p q b) (symbolDone g x (isPart v) (isPart w) a p q b)
+      (and-both (isPart v p && isPart w q) (eqb (g .next p b) x && eqb b a) parts
+      (and-both (eqb (g .next p b) x) (eqb b a) ex (eq-eqb b a (omega (arith, k, l))))))
+      (lt-or-le b a))
+
+-- ---- all blocks
+
+-- a state of n is in part 0 where n is at most 64, and else in one of the two
+in-part : (n p : ℕ) → p < n → n ≤ 64 → isPart 0 p ≡ true
+in-part n p l m = eq-eqb (p / 64) 0 (omega (arith, l, m))
+
+in-parts : (n p : ℕ) → p < n → n ≤ stateLimit → (isPart 0 p ≡ true) ⊎ (isPart 1 p ≡ true)
+in-parts n p l m = ⊎-elim (λ (k : p < 64). inl (eq-eqb (p / 64) 0 (omega (arith, k)))) (λ (k : 64 ≤ p). inr (eq-eqb (p / 64) 1 (omega (arith, k, l, m)))) (lt-or-le p 64)
+
+in-block : (g : Automaton) (x k v w p q b : ℕ) → isPart v p ≡ true → isPart w q ≡ true → stateDone g x k p q b ≡ true
+    → blockDone g x (isPart v) (isPart w) k p q b ≡ true
+in-block g x k v w p q b ep eq t = and-both (isPart v p && isPart w q) (stateDone g x k p q b) (and-both (isPart v p) (isPart w q) ep eq) t
+
+module _ {g : Automaton} (x k : ℕ) {r : ℕ} {front : ℕ → Bool} {sets square₀ alike₀ next₀ active₀ : List ℕ} {rows₀ : ℕ → Bool} where
+  pub one-block : {square alike next active : List ℕ} {rows : ℕ → Bool} → g .states ≤ 64
+      → GoesAt g r x front (blockDone g x (isPart 0) (isPart 0) k) sets square₀ alike₀ next₀ active₀ rows₀ square alike next active rows
+      → GoesAt g r x front (stateDone g x k) sets square₀ alike₀ next₀ active₀ rows₀ square alike next active rows
+  one-block few step =
+      goes-less (stateDone g x k) step (λ p q b lp lq lb t. in-block g x k 0 0 p q b (in-part (g .states) p lp few) (in-part (g .states) q lq few) t)
+
+  pub four-blocks : {square alike next active square′ alike′ next′ active′ square″ alike″ next″ active″ square‴ alike‴ next‴ active‴ : List ℕ}
+      {rows rows′ rows″ rows‴ : ℕ → Bool} → g .states ≤ stateLimit
+      → GoesAt g r x front (blockDone g x (isPart 0) (isPart 0) k) sets square₀ alike₀ next₀ active₀ rows₀ square alike next active rows
+      → GoesAt g r x front (blockDone g x (isPart 0) (isPart 1) k) sets square alike next active rows square′ alike′ next′ active′ rows′
+      → GoesAt g r x front (blockDone g x (isPart 1) (isPart 0) k) sets square′ alike′ next′ active′ rows′ square″ alike″ next″ active″ rows″
+      → GoesAt g r x front (blockDone g x (isPart 1) (isPart 1) k) sets square″ alike″ next″ active″ rows″ square‴ alike‴ next‴ active‴ rows‴
+      → GoesAt g r x front (stateDone g x k) sets square₀ alike₀ next₀ active₀ rows₀ square‴ alike‴ next‴ active‴ rows‴
+  four-blocks few b₀ b₁ b₂ b₃ =
+      goes-less (stateDone g x k) (goes-then (goes-then (goes-then b₀ b₁) b₂) b₃) (λ p q b lp lq lb t.
+      let at : ℕ → ℕ → Bool = λ v w. blockDone g x (isPart v) (isPart w) k p q b in
+      ⊎-elim
+      (λ ep. ⊎-elim
+      (λ eq. or-left ((at 0 0 || at 0 1) || at 1 0) (at 1 1) (or-left (at 0 0 || at 0 1) (at 1 0) (or-left (at 0 0) (at 0 1) (in-block g x k 0 0 p q b ep eq t))))
+      (λ eq. or-left ((at 0 0 || at 0 1) || at 1 0) (at 1 1) (or-left (at 0 0 || at 0 1) (at 1 0) (or-right (at 0 0) (at 0 1) (in-block g x k 0 1 p q b ep eq t))))
+      (in-parts (g .states) q lq few))
+      (λ ep. ⊎-elim
+      (λ eq. or-left ((at 0 0 || at 0 1) || at 1 0) (at 1 1) (or-right (at 0 0 || at 0 1) (at 1 0) (in-block g x k 1 0 p q b ep eq t)))
+      (λ eq. or-right ((at 0 0 || at 0 1) || at 1 0) (at 1 1) (in-block g x k 1 1 p q b ep eq t))
+      (in-parts (g .states) q lq few))
+      (in-parts (g .states) p lp few))
 
 -- ---- one round
 
 -- the rows that lead to a state which is in the set and not left are done; the fresh states of those left are as they were
-pub record Spreading (g : Automaton) (ends : ℕ → ℕ → Bool) (r : ℕ) (rows left : ℕ → Bool) (fresh₀ fresh square alike next : List ℕ)
+pub record Spreading (g : Automaton) (ends : ℕ → ℕ → Bool) (r : ℕ) (rows left : ℕ → Bool) (fresh₀ fresh square alike next active : List ℕ)
     (found : ℕ → Bool) : Type 0 where
-  pub midway : Midway g ends r (λ p a. rows (g .next p a) && not (left (g .next p a))) square alike next found
+  pub midway : Midway g ends r (λ p q a. rows (g .next p a) && not (left (g .next p a))) square alike next active found
   pub size : g .states * 2 ≤ length fresh
   pub within : (x : ℕ) → left x ≡ true → rows x ≡ true
   pub fresh-left : (x q : ℕ) → x < g .states → setAt fresh x q ≡ (left x && setAt fresh₀ x q)
 
 module _ {g : Automaton} {ends : ℕ → ℕ → Bool} {r : ℕ} {square₀ alike₀ fresh₀ : List ℕ} {rows : ℕ → Bool} {sets : List ℕ} (G : Ground g ends sets)
     (L : Layer g ends r square₀ alike₀ fresh₀ rows) where
-  pub spreading-begins : {next : List ℕ} {found : ℕ → Bool} → r + 1 < never → Empty (g .states) next → ((p : ℕ) → found p ≡ false)
-      → Spreading g ends r rows rows fresh₀ fresh₀ square₀ alike₀ next found
-  spreading-begins {next} {found} fits N none = record {
+  pub spreading-begins : {next active : List ℕ} {found : ℕ → Bool} → r + 1 < never → Empty (g .states) next → Active (g .states) alike₀ active
+      → ((p : ℕ) → found p ≡ false) → Spreading g ends r rows rows fresh₀ fresh₀ square₀ alike₀ next active found
+  spreading-begins {next} {active} {found} fits N A none = record {
     midway = record {
+      active-rows = A;
       kept = kept-rows (M .kept) none;
       old = M .old;
       known = M .known;
@@ -266,29 +321,39 @@ module _ {g : Automaton} {ends : ℕ → ℕ → Bool} {r : ℕ} {square₀ alik
       at-first x q lx true e = refl
       at-first x q lx false e = not-clash (λ t. clash (L .kept .rows-all x q lx t) e)
 
-      M : Midway g ends r (λ p a. false) square₀ alike₀ next (λ p. false)
-      M = layer-begins L fits N
+      M : Midway g ends r (λ p q a. false) square₀ alike₀ next active (λ p. false)
+      M = layer-begins L fits N A
 
-  module _ {left : ℕ → Bool} {fresh square alike next : List ℕ} {found : ℕ → Bool} (S : Spreading g ends r rows left fresh₀ fresh square alike next found)
-      {x : ℕ} (ex : x ≡ first left 0 stateLimit) where
+  module _ {left : ℕ → Bool} {fresh square alike next active : List ℕ} {found : ℕ → Bool}
+      (S : Spreading g ends r rows left fresh₀ fresh square alike next active found) {x : ℕ} (ex : x ≡ first left 0 stateLimit) where
     module _ (lx : x < stateLimit) where
       row-in : x < g .states
       row-in = L .kept .rows-some x (S .within x (lowest-in left ex lx)) .0
 
-      pub spreading-more : {k : ℕ} {front left′ none : ℕ → Bool} {fresh′ square′ alike′ next′ : List ℕ} {found′ : ℕ → Bool} → g .symbols ≡ k
-          → ((q : ℕ) → front q ≡ setAt fresh x q)
+      -- what is read of the fresh states of x, those past the last state left out
+      fronted : (all front : ℕ → Bool) → ((q : ℕ) → all q ≡ ltb q (g .states)) → ((q : ℕ) → front q ≡ (setAt fresh x q && all q))
+          → (y : ℕ) → front y ≡ setAt fresh₀ x y
+      fronted all front ia is y =
+          let e : setAt fresh x y ≡ setAt fresh₀ x y = S .fresh-left x y row-in ∙ rw (lowest-in left ex lx) in
+          is y ∙ rw (e, ia y) (⊎-elim
+          (λ (l : y < g .states). rw (lt-ltb y (g .states) l) (and-true (setAt fresh₀ x y)))
+          (λ l. rw (le-ltb y (g .states) l, L .kept .fresh-is x y row-in, le-ltb y (g .states) l))
+          (lt-or-le y (g .states)))
+
+      pub spreading-more : (all : ℕ → Bool) {k : ℕ} {front left′ none : ℕ → Bool} {fresh′ square′ alike′ next′ active′ : List ℕ} {found′ : ℕ → Bool} → g .symbols ≡ k
+          → ((q : ℕ) → all q ≡ ltb q (g .states)) → ((q : ℕ) → front q ≡ (setAt fresh x q && all q))
           → ((q : ℕ) → none q ≡ false) → Put fresh x none fresh′
-          → GoesAt g r x front (stateDone g x k) sets square alike next found square′ alike′ next′ found′
+          → GoesAt g r x front (stateDone g x k) sets square alike next active found square′ alike′ next′ active′ found′
           → ((q : ℕ) → left′ q ≡ (left q && not (eqb q x && ltb x stateLimit)))
-          → Spreading g ends r rows left′ fresh₀ fresh′ square′ alike′ next′ found′
-      spreading-more {k} {front} {left′} {none} {fresh′} ek is bare P step out = record {
-        midway = midway-less (step .goes ends (λ p a. rows (g .next p a) && not (left (g .next p a))) G
-            (front-same (layer-front L x row-in) (λ y. is y ∙ S .fresh-left x y row-in ∙ rw (lowest-in left ex lx))) (S .midway))
-            (λ p a lp la t.
+          → Spreading g ends r rows left′ fresh₀ fresh′ square′ alike′ next′ active′ found′
+      spreading-more all {k} {front} {left′} {none} {fresh′} ek ia is bare P step out = record {
+        midway = midway-less (step .goes ends (λ p q a. rows (g .next p a) && not (left (g .next p a))) G
+            (front-same (layer-front L x row-in) (fronted all front ia is)) (S .midway))
+            (λ p q a lp lq la t.
             let h = lost (rows (g .next p a)) (left′ (g .next p a)) t in
             ⊎-elim
-            (λ w. or-left (rows (g .next p a) && not (left (g .next p a))) (stateDone g x k p a) (keep (h .0) w))
-            (λ w. or-right (rows (g .next p a) && not (left (g .next p a))) (stateDone g x k p a)
+            (λ w. or-left (rows (g .next p a) && not (left (g .next p a))) (stateDone g x k p q a) (keep (h .0) w))
+            (λ w. or-right (rows (g .next p a) && not (left (g .next p a))) (stateDone g x k p q a)
             (and-both (eqb (g .next p a) x) (ltb a k) (eq-eqb (g .next p a) x w) (lt-ltb a k (omega (arith, la, ek)))))
             (taken left left′ (λ q. out q ∙ rw (lt-ltb x stateLimit lx, and-true (eqb q x))) (g .next p a) (h .1)));
         size = rw (P .size) (S .size);
@@ -306,8 +371,9 @@ module _ {g : Automaton} {ends : ℕ → ℕ → Bool} {r : ℕ} {square₀ alik
               go true = refl
               go false = refl
 
-    pub spreading-ends : g .states ≤ x → Layer g ends (suc r) square alike next found × Empty (g .states) fresh
+    pub spreading-ends : g .states ≤ x → Layer g ends (suc r) square alike next found × Empty (g .states) fresh × Active (g .states) alike active
     spreading-ends l = (
-      layer-next L (G .closed) (S .midway) (λ p a lp la t. keep t (lowest-none left ex l (g .next p a) (G .closed .next-in p a lp la))),
+      layer-next L (G .closed) (S .midway) (λ p q a lp lq la t. keep t (lowest-none left ex l (g .next p a) (G .closed .next-in p a lp la))),
       record { size = S .size; none = λ z q lz. S .fresh-left z q lz ∙ rw (lowest-none left ex l z lz) },
+      S .midway .active-rows,
     )

@@ -2,14 +2,15 @@
 use mathlib.Core.Path.{_≡_, refl, sym, _∙_}
 use mathlib.Core.Bool.{Bool, true, false, not, _&&_}
 use mathlib.Core.Logic.{⊎-elim}
-use Prim.Native.Nat.{ℕ, _+_, _≤_, _<_, min, zero-le}
+use Prim.Native.Nat.{ℕ, _≤_, _<_, zero-le}
 use native.Mathlib.Omega.{arith}
 use lib.Dec.{eqb, ltb}
-use borrow.Author.Tests.{eq-eqb, eqb-true, eqb-false, lt-ltb, lt-leb}
+use borrow.Author.Tests.{eq-eqb, eqb-true, eqb-false, lt-ltb}
 use Rattle.theory.specs.Below.{first, count}
 use Rattle.theory.specs.Monitor.{stateLimit}
-use Rattle.theory.proofs.Below.{and-left, first-le, first-ge, first-here, first-below, lt-or-le, count-more}
-use Rattle.state_set.specs.Member.{inPart}
+use Rattle.state_set.specs.Member.{inPart, lowestIn}
+use Rattle.state_set.proofs.Words.{part-none}
+use Rattle.theory.proofs.Below.{and-left, first-le, first-here, first-below, lt-or-le, count-more}
 
 -- the lowest state below the limit is in the set
 pub lowest-in : (f : ℕ → Bool) {y : ℕ} → y ≡ first f 0 stateLimit → y < stateLimit → f y ≡ true
@@ -42,29 +43,17 @@ module _ (f : ℕ → Bool) {b : Bool} (e : b ≡ eqb (first f 0 stateLimit) sta
       let l : first f 0 stateLimit < stateLimit = ⊎-elim (λ h. h) (λ h. absurd (z (omega (arith, m, h)))) (lt-or-le (first f 0 stateLimit) stateLimit) in
       (first f 0 stateLimit, l, lowest-in f refl l)
 
--- ---- the states of one word
+-- ---- the states of a word
 
-module _ (from word : ℕ) {y : ℕ} (e : y ≡ first (inPart from word) from 64) where
-  -- the lowest is in the word
-  pub part-in : y < from + 64 → inPart from word y ≡ true
-  part-in l = rw e (first-here (inPart from word) from 64 (omega (arith, e, l)))
+-- an empty word has none
+pub word-none : (w : ℕ) {word : ℕ} → word ≡ 0 → (q : ℕ) → inPart w word q ≡ false
+word-none w e q = rw e (part-none w q)
 
-  pub part-from : from ≤ y
-  part-from = (let m = first-ge (inPart from word) from 64 in omega (arith, e, m))
+-- what is left without the lowest
+pub word-rest : (w word rest y : ℕ) → y ≡ lowestIn w word → ((q : ℕ) → inPart w rest q ≡ (inPart w word q && not (eqb q (lowestIn w word))))
+    → (q : ℕ) → inPart w rest q ≡ (inPart w word q && not (eqb q y))
+word-rest w word rest y e is q = rw e (is q)
 
-  -- where it is not below n, no state below n is
-  pub part-none : (n : ℕ) → ((q : ℕ) → from + 64 ≤ q → inPart from word q ≡ false) → min n (from + 64) ≤ y → (q : ℕ) → q < n → inPart from word q ≡ false
-  unfolding inPart
-  part-none n past l q lq =
-      ⊎-elim
-      (λ (b : q < from). rw (lt-leb from q b))
-      (λ (b : from ≤ q). ⊎-elim
-      (λ (m : q < from + 64). first-below (inPart from word) from 64 q b (omega (arith, e, l, lq, m)))
-      (past q)
-      (lt-or-le q (from + 64)))
-      (lt-or-le q from)
-
--- taken out, it leaves fewer
-pub part-less : (f h : ℕ → Bool) {y n : ℕ} → f y ≡ true → y < n → ((q : ℕ) → h q ≡ (f q && not (eqb q y))) → count n h < count n f
-part-less f h {y} {n} hy l is =
-    count-more n h f (λ q lq t. and-left (f q) (not (eqb q y)) (sym (is q) ∙ t)) y l (is y ∙ rw (eq-eqb y y refl, hy)) hy
+-- was there before
+pub word-stays : (left left′ : ℕ → Bool) (y : ℕ) → ((q : ℕ) → left′ q ≡ (left q && not (eqb q y))) → (q : ℕ) → left′ q ≡ true → left q ≡ true
+word-stays left left′ y is q t = and-left (left q) (not (eqb q y)) (sym (is q) ∙ t)

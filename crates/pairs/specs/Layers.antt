@@ -4,7 +4,7 @@ use mathlib.Core.Path.{_≡_}
 use mathlib.Core.Bool.{Bool, true, false, cond, not, _&&_, _||_}
 use mathlib.Core.List.{List}
 use mathlib.Core.Logic.{_⊎_}
-use Prim.Native.Nat.{ℕ, suc, _+_, _*_, _≤_, _<_}
+use Prim.Native.Nat.{ℕ, suc, _+_, _*_, _/_, _≤_, _<_}
 use lib.Dec.{eqb, leb, ltb}
 use lib.ListN.{length, getD}
 use Rattle.theory.specs.Automaton.{Automaton, Closed}
@@ -37,12 +37,9 @@ upTo p a q b = ltb q p || (eqb q p && ltb b a)
 abbrev pub leading : Automaton → ℕ → (ℕ → Bool) → ℕ → Bool
 leading g a set q = ltb q (g .states) && set (g .next q a)
 
-pub record Into (g : Automaton) (a : ℕ) (set into : ℕ → Bool) : Type 0 where
-  pub at : (q : ℕ) → into q ≡ leading g a set q
-
--- the same, added to what was there
-pub record Joined (g : Automaton) (a : ℕ) (set before into : ℕ → Bool) : Type 0 where
-  pub at : (q : ℕ) → into q ≡ (before q || leading g a set q)
+-- those of them that pass a test
+pub record Into (g : Automaton) (a : ℕ) (part set into : ℕ → Bool) : Type 0 where
+  pub at : (q : ℕ) → into q ≡ (part q && leading g a set q)
 
 -- ---- entries of a row
 
@@ -54,14 +51,16 @@ pub record Entered (n : ℕ) (before : List ℕ) (p : ℕ) (test : ℕ → Bool)
 
 -- ---- layers
 
--- there is room for n states: in the square, in the two arrays of sets that a round goes on with, and in that of the
--- predecessors
-pub record Room (n : ℕ) (square alike next predecessors : List ℕ) : Type 0 where
+-- there is room for n states: in the square, in the arrays of sets that a round goes on with, and in that of the
+-- predecessors, which are states themselves
+pub record Room (n k : ℕ) (square alike next active predecessors : List ℕ) : Type 0 where
   pub few : n ≤ stateLimit
   pub rows : HasRows n square
   pub alike-sets : n * 2 ≤ length alike
   pub next-sets : n * 2 ≤ length next
+  pub active-sets : 4 ≤ length active
   pub predecessors-sets : n * symbolLimit * 2 ≤ length predecessors
+  pub predecessors-in : (x a p : ℕ) → x < n → a < k → setAt predecessors (x * symbolLimit + a) p ≡ true → p < n
 
 -- what the search goes by: an automaton, a test that no state passes with itself, and the predecessors of every state
 pub record Ground (g : Automaton) (ends : ℕ → ℕ → Bool) (predecessors : List ℕ) : Type 0 where
@@ -98,47 +97,60 @@ pub record Front (g : Automaton) (ends : ℕ → ℕ → Bool) (r x : ℕ) (fron
   pub all : (y : ℕ) → y < g .states → told g ends r x y ≡ true
       → (front y ≡ true) ⊎ ((s : ℕ) × (r ≡ suc s) × (told g ends s x y ≡ true))
 
+-- set w of `active` has every row to which a state of part w is alike
+pub record Active (n : ℕ) (alike active : List ℕ) : Type 0 where
+  pub at : (p q : ℕ) → p < n → setAt alike p q ≡ true → setAt active (q / 64) p ≡ true
+
+-- row p is out of set w where no state is left, and all else stays
+pub record Retired (p w left : ℕ) (before after : List ℕ) : Type 0 where
+  pub size : length after ≡ length before
+  pub stays : (u x : ℕ) → setAt before u x ≡ true → (setAt after u x ≡ true) ⊎ ((u ≡ w) × (x ≡ p) × (left ≡ 0))
+
 -- in the middle of the round after r: what was at most r is as it was, what is new is told apart within r + 1, and the
--- row p has what symbol a adds to it where that is done
-pub record Midway (g : Automaton) (ends : ℕ → ℕ → Bool) (r : ℕ) (done : ℕ → ℕ → Bool) (square alike next : List ℕ)
-    (rows : ℕ → Bool) : Type 0 where
+-- row p has in column q what symbol a adds to it where that is done
+pub record Midway (g : Automaton) (ends : ℕ → ℕ → Bool) (r : ℕ) (done : ℕ → ℕ → ℕ → Bool)
+    (square alike next active : List ℕ) (rows : ℕ → Bool) : Type 0 where
   pub kept : Kept (g .states) (suc r) (g .states) square alike next rows
+  pub active-rows : Active (g .states) alike active
   pub old : (p q s : ℕ) → p < g .states → q < g .states → s ≤ r → told g ends s p q ≡ leb (entry square p q) s
   pub known : (p q : ℕ) → p < g .states → q < g .states → (entry square p q ≤ suc r) ⊎ (entry square p q ≡ never)
   pub new : (p q : ℕ) → p < g .states → q < g .states → entry square p q ≡ suc r → told g ends (suc r) p q ≡ true
-  pub covered : (p q a : ℕ) → p < g .states → q < g .states → a < g .symbols → done p a ≡ true
+  pub covered : (p q a : ℕ) → p < g .states → q < g .states → a < g .symbols → done p q a ≡ true
       → told g ends r (g .next p a) (g .next q a) ≡ true → entry square p q ≤ suc r
 
--- the round goes on: with what is at distance r from x, more rows and symbols are done, whatever the test of two
--- states; no state becomes alike to another
-pub record GoesAt (g : Automaton) (r x : ℕ) (front : ℕ → Bool) (more : ℕ → ℕ → Bool) (predecessors : List ℕ)
-    (square alike next : List ℕ) (rows : ℕ → Bool) (square′ alike′ next′ : List ℕ) (rows′ : ℕ → Bool) : Type 0 where
-  pub goes : (ends : ℕ → ℕ → Bool) (done : ℕ → ℕ → Bool) → Ground g ends predecessors → Front g ends r x front
-      → Midway g ends r done square alike next rows
-      → Midway g ends r (λ p a. done p a || more p a) square′ alike′ next′ rows′
-  pub shrinks : (p q : ℕ) → setAt alike p q ≡ false → setAt alike′ p q ≡ false
+-- the round goes on: with what is at distance r from x, more is done, whatever the test of two states
+pub record GoesAt (g : Automaton) (r x : ℕ) (front : ℕ → Bool) (more : ℕ → ℕ → ℕ → Bool) (predecessors : List ℕ)
+    (square alike next active : List ℕ) (rows : ℕ → Bool) (square′ alike′ next′ active′ : List ℕ) (rows′ : ℕ → Bool)
+    : Type 0 where
+  pub goes : (ends : ℕ → ℕ → Bool) (done : ℕ → ℕ → ℕ → Bool) → Ground g ends predecessors → Front g ends r x front
+      → Midway g ends r done square alike next active rows
+      → Midway g ends r (λ p q a. done p q a || more p q a) square′ alike′ next′ active′ rows′
 
--- no state is alike to a row that is not open
-pub record Idle (n : ℕ) (opened : ℕ → Bool) (alike : List ℕ) : Type 0 where
-  pub at : (p q : ℕ) → p < n → q < n → opened p ≡ false → setAt alike p q ≡ false
+-- the states of a front are below n
+pub record Fronted (n : ℕ) (front : ℕ → Bool) : Type 0 where
+  pub at : (y : ℕ) → front y ≡ true → y < n
 
 -- ---- what is done at a time
 
--- one row with one symbol
-abbrev pub rowDone : ℕ → ℕ → ℕ → ℕ → Bool
-rowDone p a q b = eqb q p && eqb b a
+-- row p in some columns, with symbol a
+abbrev pub rowDone : (ℕ → Bool) → ℕ → ℕ → ℕ → ℕ → ℕ → Bool
+rowDone columns p a x q b = columns q && (eqb x p && eqb b a)
 
--- the rows of a set with symbol a
-abbrev pub setDone : (ℕ → Bool) → ℕ → ℕ → ℕ → Bool
-setDone set a q b = set q && eqb b a
+-- the rows of a set in some columns, with symbol a
+abbrev pub setDone : (ℕ → Bool) → (ℕ → Bool) → ℕ → ℕ → ℕ → ℕ → Bool
+setDone columns set a p q b = columns q && (set p && eqb b a)
 
--- the rows that symbol a leads to x
-abbrev pub symbolDone : Automaton → ℕ → ℕ → ℕ → ℕ → Bool
-symbolDone g x a q b = eqb (g .next q b) x && eqb b a
+-- some rows that symbol a leads to x, in some columns
+abbrev pub symbolDone : Automaton → ℕ → (ℕ → Bool) → (ℕ → Bool) → ℕ → ℕ → ℕ → ℕ → Bool
+symbolDone g x rows columns a p q b = (rows p && columns q) && (eqb (g .next p b) x && eqb b a)
 
--- the rows that a symbol below k leads to x
-abbrev pub stateDone : Automaton → ℕ → ℕ → ℕ → ℕ → Bool
-stateDone g x k q b = eqb (g .next q b) x && ltb b k
+-- some rows that a symbol below k leads to x, in some columns
+abbrev pub blockDone : Automaton → ℕ → (ℕ → Bool) → (ℕ → Bool) → ℕ → ℕ → ℕ → ℕ → Bool
+blockDone g x rows columns k p q b = (rows p && columns q) && (eqb (g .next p b) x && ltb b k)
+
+-- all rows that a symbol below k leads to x
+abbrev pub stateDone : Automaton → ℕ → ℕ → ℕ → ℕ → ℕ → Bool
+stateDone g x k p q b = eqb (g .next p b) x && ltb b k
 
 -- ---- before the first round
 

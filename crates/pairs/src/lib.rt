@@ -16,19 +16,22 @@ ghost use lib.Seq.{sets};
 ghost use Rattle.theory.specs.Below.{first};
 ghost use Rattle.theory.specs.Automaton.{Automaton, Closed, run};
 ghost use Rattle.theory.specs.Monitor.{stateLimit, symbolLimit};
-ghost use Rattle.state_set.specs.Member.{inPart, member, setAt};
+ghost use Rattle.state_set.specs.Member.{isPart, inPart, member, setAt};
 ghost use Rattle.monitor.specs.Format.{Rows, graph};
 ghost use Rattle.pairs.specs.Square.{never, place, HasRows, entry, Squared, passing, nearer, Falling, apart};
 ghost use Rattle.pairs.specs.Pass.{start, pair};
-ghost use Rattle.pairs.specs.Layers.{Empty, Preceding, upTo, Into, Joined, Entered, Room, Idle, Blank, Unused};
-ghost use Rattle.pairs.specs.Layers.{Begun, PairBegun, RowDone};
-ghost use Rattle.pairs.specs.Layers.{Ground, Layer, GoesAt, rowDone, setDone, symbolDone, stateDone};
+ghost use Rattle.pairs.specs.Layers.{Empty, Preceding, upTo, Into, Entered, Room, Active, Fronted, Retired};
+ghost use Rattle.pairs.specs.Layers.{Begun, PairBegun, RowDone, Blank, Unused};
+ghost use Rattle.pairs.specs.Layers.{Ground, Layer, GoesAt, rowDone, setDone, symbolDone, blockDone, stateDone};
 
 // Not told apart. Any smaller number counts symbols.
 pub const NEVER: usize = 65535;
 
 // The same as an entry of the square.
 const NEVER_ENTRY: u16 = NEVER as u16;
+
+// A word that has every state of its part.
+const ALL: u64 = 0xffffffffffffffff;
 
 // The two states that one trace leads to from two states: the caller has one from what was sent, the other from what
 // was received.
@@ -114,87 +117,71 @@ fn enter_predecessors(sets: &mut [u64], nexts: &[u8], n: usize, k: usize)
     }
 }
 
-// The predecessors of x under symbol a.
-fn predecessors_of(predecessors: &[u64], x: usize, a: usize) -> StateSet
-    requires { ⌜ (x * symbolLimit + a) * 2 + 1 < length (now predecessors) ⌝ }
-    ensures { λ r. ⌜ ((q : ℕ) → member r q ≡ setAt (now (predecessors .entry)) (x * symbolLimit + a) q) ⌝ }
-{
-    StateSet::read(predecessors, x * SYMBOL_LIMIT + a)
-}
-
-// The states from which a leads into those of a word, of n states, beside those given.
-fn leading_part(
-    predecessors: &[u64],
-    n: usize,
-    a: usize,
-    word: u64,
-    from: usize,
-    given: StateSet,
-) -> StateSet
-    requires { ⌜ (n ≤ stateLimit)
-        × (a < symbolLimit)
-        × (n * symbolLimit * 2 ≤ length (now predecessors))
-        × (from ≤ 64) ⌝ }
-    ensures { λ r. ⌜ ((g : Automaton) → g .states ≡ n → a < g .symbols
-        → Preceding g (λ p b. ltb p (g .states)) (now (predecessors .entry)) → Closed g
-        → Joined g a (inPart from word) (member given) (member r)) ⌝ }
-{
-    let end = basics::least_of(n, from + WORD);
-    let mut into = given;
-    let mut left = word;
-    loop {
-        let y = state_set::lowest_in(left, from);
-        if y >= end {
-            return into;
-        }
-        into = into.union(predecessors_of(predecessors, y, a));
-        left = state_set::take_out(left, from, y);
-    }
-}
-
-// The states from which a leads into the set, of n states. Each word has a loop of its own, so that an upper word that
-// no state uses costs nothing.
-fn leading_into(predecessors: &[u64], n: usize, a: usize, set: StateSet) -> StateSet
-    requires { ⌜ (n ≤ stateLimit)
-        × (a < symbolLimit)
-        × (n * symbolLimit * 2 ≤ length (now predecessors)) ⌝ }
-    ensures { λ r. ⌜ ((g : Automaton) → g .states ≡ n → a < g .symbols
-        → Preceding g (λ p b. ltb p (g .states)) (now (predecessors .entry)) → Closed g
-        → Into g a (member set) (member r)) ⌝ }
-{
-    let low = leading_part(predecessors, n, a, set.low(), 0, StateSet::empty());
-    leading_part(predecessors, n, a, set.high(), WORD, low)
-}
-
 // ---- the pairs at distance r + 1, from those at r
+//
+// A round goes by blocks: rows of part v and columns of part w, a word for each row. A table of up to 64 states is one
+// block, and its upper words are not looked at.
 
-// Enters d for p and each state of the set, of n states.
-fn enter(square: &mut [u16], n: usize, p: usize, set: StateSet, d: u16)
+// The states of part w from which a leads into those of a word of part u, of n states.
+fn leading_into(predecessors: &[u64], n: usize, a: usize, word: u64, u: usize, w: usize) -> u64
+    requires { ⌜ (a < symbolLimit)
+        × (n * symbolLimit * 2 ≤ length (now predecessors))
+        × Fronted n (inPart u word)
+        × (u < 2)
+        × (w < 2) ⌝ }
+    ensures { λ r. ⌜ ((g : Automaton) → g .states ≡ n → a < g .symbols
+        → Preceding g (λ p b. ltb p (g .states)) (now (predecessors .entry)) → Closed g
+        → Into g a (isPart w) (inPart u word) (inPart w r)) ⌝ }
+{
+    let mut into = 0;
+    let mut left = word;
+    while left != 0 {
+        let y = state_set::lowest_of(left, u);
+        into = into | state_set::word_at(predecessors, y * SYMBOL_LIMIT + a, w);
+        left = state_set::without_lowest(left);
+    }
+    into
+}
+
+// Enters d for p and each state of a word of part w, of n states.
+fn enter(square: &mut [u16], n: usize, p: usize, word: u64, w: usize, d: u16)
     requires { ⌜ (n ≤ stateLimit)
         × HasRows n (now square)
-        × (p < n) ⌝ }
-    ensures { λ _. ⌜ Entered n (now (square .entry)) p (member set) d (now (square .exit)) ⌝ }
+        × (p < n)
+        × (w < 2) ⌝ }
+    ensures { λ _. ⌜ Entered n (now (square .entry)) p (inPart w word) d (now (square .exit)) ⌝ }
 {
-    let mut left = set;
-    loop {
-        let q = left.lowest();
-        if q >= n {
-            return;
-        }
+    let mut left = word;
+    while left != 0 {
+        let q = state_set::lowest_of(left, w);
         square[p * STATE_LIMIT + q] = d;
-        left = left.without(q);
+        left = state_set::without_lowest(left);
     }
 }
 
-// Adds to row p those of the states `into` that are alike to p: by some symbol a they lead into a front, p's successor
-// and any state of which are at r. Returns the rows that have a pair at r + 1, beside those given.
+// Retires row p from the columns of part w where none of them is left.
+fn retire_row(active: &mut [u64], p: usize, w: usize, left: u64)
+    requires { ⌜ (w < 2)
+        × (4 ≤ length (now active)) ⌝ }
+    ensures { λ _. ⌜ Retired p w left (now (active .entry)) (now (active .exit)) ⌝ }
+{
+    if left != 0 {
+        return;
+    }
+    StateSet::read(active, w).without(p).write(active, w);
+}
+
+// Adds to row p those of the states `into`, of part w, that are alike to p: by some symbol a they lead into a front,
+// p's successor and any state of which are at r. Returns the rows that have a pair at r + 1, beside those given.
 fn spread_row(
     square: &mut [u16],
     alike: &mut [u64],
     next: &mut [u64],
+    active: &mut [u64],
     n: usize,
     p: usize,
-    into: StateSet,
+    w: usize,
+    into: u64,
     r: u16,
     found: StateSet,
 ) -> StateSet
@@ -202,35 +189,43 @@ fn spread_row(
         × HasRows n (now square)
         × (n * 2 ≤ length (now alike))
         × (n * 2 ≤ length (now next))
+        × (4 ≤ length (now active))
         × (p < n)
+        × (w < 2)
         × (r + 1 < never) ⌝ }
     ensures { λ after. ⌜ ((g : Automaton) (a : ℕ) (front : ℕ → Bool) (predecessors : List ℕ)
         → g .states ≡ n → a < g .symbols
-        → (Closed g → Preceding g (λ q b. ltb q (g .states)) predecessors → Into g a front (member into))
-        → GoesAt g r (g .next p a) front (rowDone p a) predecessors
-        (now (square .entry)) (now (alike .entry)) (now (next .entry)) (member found)
-        (now (square .exit)) (now (alike .exit)) (now (next .exit)) (member after)) ⌝ }
+        → (Closed g → Preceding g (λ q b. ltb q (g .states)) predecessors
+        → Into g a (isPart w) front (inPart w into))
+        → GoesAt g r (g .next p a) front (rowDone (isPart w) p a) predecessors
+        (now (square .entry)) (now (alike .entry)) (now (next .entry)) (now (active .entry)) (member found)
+        (now (square .exit)) (now (alike .exit)) (now (next .exit)) (now (active .exit)) (member after)) ⌝ }
 {
-    let here = StateSet::read(alike, p);
-    let new = here.intersection(into);
-    if is_empty(new) {
+    let here = state_set::word_at(alike, p, w);
+    let new = here & into;
+    if new == 0 {
         return found;
     }
-    here.minus(new).write(alike, p);
-    StateSet::read(next, p).union(new).write(next, p);
-    enter(square, n, p, new, r + 1);
+    let left = here & !new;
+    state_set::put_word(alike, p, w, left);
+    let more = state_set::word_at(next, p, w) | new;
+    state_set::put_word(next, p, w, more);
+    enter(square, n, p, new, w, r + 1);
+    retire_row(active, p, w, left);
     found.with(p)
 }
 
-// The same for each row of a word.
-fn spread_part(
+// The same for each row of a word of part v.
+fn spread_rows(
     square: &mut [u16],
     alike: &mut [u64],
     next: &mut [u64],
+    active: &mut [u64],
     n: usize,
     word: u64,
-    from: usize,
-    into: StateSet,
+    v: usize,
+    w: usize,
+    into: u64,
     r: u16,
     rows: StateSet,
 ) -> StateSet
@@ -238,159 +233,168 @@ fn spread_part(
         × HasRows n (now square)
         × (n * 2 ≤ length (now alike))
         × (n * 2 ≤ length (now next))
-        × (from ≤ 64)
+        × (4 ≤ length (now active))
+        × Fronted n (inPart v word)
+        × (v < 2)
+        × (w < 2)
         × (r + 1 < never) ⌝ }
     ensures { λ after. ⌜ ((g : Automaton) (x a : ℕ) (front : ℕ → Bool) (predecessors : List ℕ)
         → g .states ≡ n → x < g .states → a < g .symbols
-        → (Closed g → Preceding g (λ q b. ltb q (g .states)) predecessors → Into g a front (member into))
-        → ((p : ℕ) → inPart from word p ≡ true → setAt predecessors (x * symbolLimit + a) p ≡ true)
-        → GoesAt g r x front (setDone (inPart from word) a) predecessors
-        (now (square .entry)) (now (alike .entry)) (now (next .entry)) (member rows)
-        (now (square .exit)) (now (alike .exit)) (now (next .exit)) (member after)) ⌝ }
+        → (Closed g → Preceding g (λ q b. ltb q (g .states)) predecessors
+        → Into g a (isPart w) front (inPart w into))
+        → ((p : ℕ) → inPart v word p ≡ true → setAt predecessors (x * symbolLimit + a) p ≡ true)
+        → GoesAt g r x front (setDone (isPart w) (inPart v word) a) predecessors
+        (now (square .entry)) (now (alike .entry)) (now (next .entry)) (now (active .entry)) (member rows)
+        (now (square .exit)) (now (alike .exit)) (now (next .exit)) (now (active .exit)) (member after)) ⌝ }
 {
-    let end = basics::least_of(n, from + WORD);
     let mut found = rows;
     let mut left = word;
-    loop {
-        let p = state_set::lowest_in(left, from);
-        if p >= end {
-            return found;
-        }
-        found = spread_row(square, alike, next, n, p, into, r, found);
-        left = state_set::take_out(left, from, p);
+    while left != 0 {
+        let p = state_set::lowest_of(left, v);
+        found = spread_row(square, alike, next, active, n, p, w, into, r, found);
+        left = state_set::without_lowest(left);
     }
+    found
 }
 
-// The same for each open row from which a leads to x.
+// The same for each active row of part v from which a leads to x.
 fn spread_symbol(
     square: &mut [u16],
     alike: &mut [u64],
     next: &mut [u64],
-    predecessors: &[u64],
-    n: usize,
-    opened: StateSet,
-    x: usize,
-    a: usize,
-    front: StateSet,
-    r: u16,
-    rows: StateSet,
-) -> StateSet
-    requires { ⌜ Room n (now square) (now alike) (now next) (now predecessors)
-        × (x < n)
-        × (a < symbolLimit)
-        × (r + 1 < never) ⌝ }
-    ensures { λ after. ⌜ ((g : Automaton) → g .states ≡ n → a < g .symbols
-        → Idle n (member opened) (now (alike .entry))
-        → GoesAt g r x (member front) (symbolDone g x a) (now (predecessors .entry))
-        (now (square .entry)) (now (alike .entry)) (now (next .entry)) (member rows)
-        (now (square .exit)) (now (alike .exit)) (now (next .exit)) (member after)) ⌝ }
-{
-    let left = predecessors_of(predecessors, x, a).intersection(opened);
-    if is_empty(left) {
-        return rows;
-    }
-    let into = leading_into(predecessors, n, a, front);
-    let found = spread_part(square, alike, next, n, left.low(), 0, into, r, rows);
-    spread_part(square, alike, next, n, left.high(), WORD, into, r, found)
-}
-
-// The same for each symbol.
-fn spread_state(
-    square: &mut [u16],
-    alike: &mut [u64],
-    next: &mut [u64],
+    active: &mut [u64],
     predecessors: &[u64],
     n: usize,
     k: usize,
-    opened: StateSet,
     x: usize,
+    a: usize,
+    v: usize,
+    w: usize,
     front: StateSet,
     r: u16,
     rows: StateSet,
 ) -> StateSet
-    requires { ⌜ Room n (now square) (now alike) (now next) (now predecessors)
+    requires { ⌜ Room n k (now square) (now alike) (now next) (now active) (now predecessors)
+        × Fronted n (member front)
         × (k ≤ symbolLimit)
         × (x < n)
+        × (a < k)
+        × (v < 2)
+        × (w < 2)
         × (r + 1 < never) ⌝ }
     ensures { λ after. ⌜ ((g : Automaton) → g .states ≡ n → g .symbols ≡ k
-        → Idle n (member opened) (now (alike .entry))
-        → GoesAt g r x (member front) (stateDone g x k) (now (predecessors .entry))
-        (now (square .entry)) (now (alike .entry)) (now (next .entry)) (member rows)
-        (now (square .exit)) (now (alike .exit)) (now (next .exit)) (member after)) ⌝ }
+        → GoesAt g r x (member front) (symbolDone g x (isPart v) (isPart w) a) (now (predecessors .entry))
+        (now (square .entry)) (now (alike .entry)) (now (next .entry)) (now (active .entry)) (member rows)
+        (now (square .exit)) (now (alike .exit)) (now (next .exit)) (now (active .exit)) (member after)) ⌝ }
+{
+    let leading = state_set::word_at(predecessors, x * SYMBOL_LIMIT + a, v);
+    let left = leading & state_set::word_at(active, w, v);
+    if left == 0 {
+        return rows;
+    }
+    let low = leading_into(predecessors, n, a, front.low(), 0, w);
+    let into = low | leading_into(predecessors, n, a, front.high(), 1, w);
+    spread_rows(square, alike, next, active, n, left, v, w, into, r, rows)
+}
+
+// The same for each symbol: the rows of part v, in the columns of part w.
+fn spread_block(
+    square: &mut [u16],
+    alike: &mut [u64],
+    next: &mut [u64],
+    active: &mut [u64],
+    predecessors: &[u64],
+    n: usize,
+    k: usize,
+    x: usize,
+    v: usize,
+    w: usize,
+    front: StateSet,
+    r: u16,
+    rows: StateSet,
+) -> StateSet
+    requires { ⌜ Room n k (now square) (now alike) (now next) (now active) (now predecessors)
+        × Fronted n (member front)
+        × (k ≤ symbolLimit)
+        × (x < n)
+        × (v < 2)
+        × (w < 2)
+        × (r + 1 < never) ⌝ }
+    ensures { λ after. ⌜ ((g : Automaton) → g .states ≡ n → g .symbols ≡ k
+        → GoesAt g r x (member front) (blockDone g x (isPart v) (isPart w) k) (now (predecessors .entry))
+        (now (square .entry)) (now (alike .entry)) (now (next .entry)) (now (active .entry)) (member rows)
+        (now (square .exit)) (now (alike .exit)) (now (next .exit)) (now (active .exit)) (member after)) ⌝ }
 {
     let mut found = rows;
     let mut a = 0;
     while a < k {
-        found = spread_symbol(
-            square,
-            alike,
-            next,
-            predecessors,
-            n,
-            opened,
-            x,
-            a,
-            front,
-            r,
-            found,
-        );
+        found = spread_symbol(square, alike, next, active, predecessors, n, k, x, a, v, w, front, r, found);
         a += 1;
     }
     found
 }
 
-// The rows given, and p if some state is alike to it.
-fn open_row(alike: &[u64], p: usize, rows: StateSet) -> StateSet
-    requires { ⌜ (p < stateLimit)
-        × (p * 2 + 1 < length (now alike)) ⌝ }
-    ensures others { λ r. ⌜ ((x : ℕ) → member r x ≡ false → member rows x ≡ false) ⌝ }
-    ensures own { λ r. ⌜ (member r p ≡ false → (q : ℕ) → q < stateLimit → setAt (now (alike .entry)) p q ≡ false) ⌝ }
+// The same for all rows and columns: one block, or four where there are states of part 1.
+fn spread_state(
+    square: &mut [u16],
+    alike: &mut [u64],
+    next: &mut [u64],
+    active: &mut [u64],
+    predecessors: &[u64],
+    n: usize,
+    k: usize,
+    x: usize,
+    front: StateSet,
+    r: u16,
+    rows: StateSet,
+) -> StateSet
+    requires { ⌜ Room n k (now square) (now alike) (now next) (now active) (now predecessors)
+        × Fronted n (member front)
+        × (k ≤ symbolLimit)
+        × (x < n)
+        × (r + 1 < never) ⌝ }
+    ensures { λ after. ⌜ ((g : Automaton) → g .states ≡ n → g .symbols ≡ k
+        → GoesAt g r x (member front) (stateDone g x k) (now (predecessors .entry))
+        (now (square .entry)) (now (alike .entry)) (now (next .entry)) (now (active .entry)) (member rows)
+        (now (square .exit)) (now (alike .exit)) (now (next .exit)) (now (active .exit)) (member after)) ⌝ }
 {
-    if is_empty(StateSet::read(alike, p)) {
-        return rows;
+    let one = spread_block(square, alike, next, active, predecessors, n, k, x, 0, 0, front, r, rows);
+    if n <= WORD {
+        return one;
     }
-    rows.with(p)
-}
-
-// The rows to which some state is alike. The others have nothing left to be told apart from.
-fn open_rows(alike: &[u64], n: usize) -> StateSet
-    requires { ⌜ (n ≤ stateLimit)
-        × (n * 2 ≤ length (now alike)) ⌝ }
-    ensures { λ r. ⌜ Idle n (member r) (now (alike .entry)) ⌝ }
-{
-    let mut opened = StateSet::empty();
-    let mut p = 0;
-    while p < n {
-        opened = open_row(alike, p, opened);
-        p += 1;
-    }
-    opened
+    let two = spread_block(square, alike, next, active, predecessors, n, k, x, 0, 1, front, r, one);
+    let three = spread_block(square, alike, next, active, predecessors, n, k, x, 1, 0, front, r, two);
+    spread_block(square, alike, next, active, predecessors, n, k, x, 1, 1, front, r, three)
 }
 
 // The round after r: from the fresh pairs, which are at r, to those at r + 1, each fresh pair once. The rows are those
-// that have a fresh pair; their sets are empty afterwards. Returns the rows of the next round.
+// that have a fresh pair; their sets are empty afterwards. `all` has all states. Returns the rows of the next round.
 fn spread(
     square: &mut [u16],
     alike: &mut [u64],
     fresh: &mut [u64],
     next: &mut [u64],
+    active: &mut [u64],
     predecessors: &[u64],
     n: usize,
     k: usize,
+    all: StateSet,
     r: u16,
     rows: StateSet,
 ) -> StateSet
-    requires { ⌜ Room n (now square) (now alike) (now next) (now predecessors)
+    requires { ⌜ Room n k (now square) (now alike) (now next) (now active) (now predecessors)
         × (n * 2 ≤ length (now fresh))
         × (k ≤ symbolLimit)
+        × ((q : ℕ) → member all q ≡ ltb q n)
         × (r + 1 < never) ⌝ }
     ensures { λ after. ⌜ ((g : Automaton) (ends : ℕ → ℕ → Bool) → g .states ≡ n → g .symbols ≡ k
         → Ground g ends (now (predecessors .entry)) → Empty (g .states) (now (next .entry))
+        → Active (g .states) (now (alike .entry)) (now (active .entry))
         → Layer g ends r (now (square .entry)) (now (alike .entry)) (now (fresh .entry)) (member rows)
         → Layer g ends (suc r) (now (square .exit)) (now (alike .exit)) (now (next .exit)) (member after)
-        × Empty (g .states) (now (fresh .exit))) ⌝ }
+        × Empty (g .states) (now (fresh .exit))
+        × Active (g .states) (now (alike .exit)) (now (active .exit))) ⌝ }
 {
-    let opened = open_rows(alike, n);
     let mut found = StateSet::empty();
     let mut left = rows;
     loop {
@@ -398,21 +402,9 @@ fn spread(
         if x >= n {
             return found;
         }
-        let front = StateSet::read(fresh, x);
+        let front = StateSet::read(fresh, x).intersection(all);
         StateSet::empty().write(fresh, x);
-        found = spread_state(
-            square,
-            alike,
-            next,
-            predecessors,
-            n,
-            k,
-            opened,
-            x,
-            front,
-            r,
-            found,
-        );
+        found = spread_state(square, alike, next, active, predecessors, n, k, x, front, r, found);
         left = left.without(x);
     }
 }
@@ -517,16 +509,17 @@ fn begin(
     alike: &mut [u64],
     fresh: &mut [u64],
     outputs: &[u8],
+    all: StateSet,
     test: Test,
 ) -> StateSet
     requires { ⌜ (length (now outputs) ≤ stateLimit)
+        × ((q : ℕ) → member all q ≡ ltb q (length (now outputs)))
         × Begun test (now outputs) 0 0 (now square) (now alike) (now fresh) (λ q. false) ⌝ }
     ensures { λ r. ⌜ Begun test (now (outputs .entry)) (length (now (outputs .entry)))
         (length (now (outputs .entry)) * length (now (outputs .entry)))
         (now (square .exit)) (now (alike .exit)) (now (fresh .exit)) (member r) ⌝ }
 {
     let n = outputs.len();
-    let all = all_below(n);
     let mut rows = StateSet::empty();
     let mut at = first_pair();
     while at.number < n * n {
@@ -583,11 +576,13 @@ fn enter_rounds(
     ensures { λ _. ⌜ Squared (graph n k (nexts .entry)) (passing test (now (outputs .entry))) (now (square .exit)) ⌝ }
 {
     enter_predecessors(sets, nexts, n, k);
-    let mut rows = begin(square, alike, fresh, outputs, test);
+    let all = all_below(n);
+    let mut active = [ALL; WORDS * WORDS];
+    let mut rows = begin(square, alike, fresh, outputs, all, test);
     let mut r = 0u16;
     while !is_empty(rows) {
-        let found = spread(square, alike, fresh, next, sets, n, k, r, rows);
-        rows = spread(square, alike, next, fresh, sets, n, k, r + 1, found);
+        let found = spread(square, alike, fresh, next, &mut active, sets, n, k, all, r, rows);
+        rows = spread(square, alike, next, fresh, &mut active, sets, n, k, all, r + 1, found);
         r += 2;
     }
 }

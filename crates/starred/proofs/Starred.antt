@@ -56,13 +56,13 @@ data AllComputed : List Fact → Type 0 where
 
 -- ---- what is computed holds
 
-module _ (m : Monitor) (w : WellFormed stateLimit m) (d set : ℕ) where
+module _ {limit : ℕ} (m : Monitor) (w : WellFormed limit m) (d set : ℕ) where
   abbrev g : Automaton
   g = m .automaton
 
   -- the distance, by the first witness
   far : (o : Option Series) → firstWitness m d set ≡ o → Distance m d set (extentOf o)
-  far o h = subst (λ (x : Option Series). Distance m d set (extentOf x)) h (distance-exact stateLimit m w d set)
+  far o h = subst (λ (x : Option Series). Distance m d set (extentOf x)) h (distance-exact limit m w d set)
 
   far-as : (s : Series) → firstWitness m d set ≡ some s → {l : ℕ} → length (sentTrace s) ≡ l → Distance m d set (number l)
   far-as s h e = subst (λ (l : ℕ). Distance m d set (number l)) e (far (some s) h)
@@ -87,7 +87,7 @@ module _ (m : Monitor) (w : WellFormed stateLimit m) (d set : ℕ) where
       record {
         distance = far-as (r .0) (r .1) (ap (λ (x : List ℕ × ℕ × ℕ). length (x .0)) (r .2));
         series = r .0;
-        first = witness-first stateLimit m w d set (r .0) (r .1);
+        first = witness-first limit m w d set (r .0) (r .1);
         is-sent = ap (λ (x : List ℕ × ℕ × ℕ). x .0) (r .2);
         is-before = ap (λ (x : List ℕ × ℕ × ℕ). x .1) (r .2);
         is-replacement = ap (λ (x : List ℕ × ℕ × ℕ). x .2) (r .2);

@@ -1,22 +1,22 @@
 -- Two words as one set: what holds of each word's bits holds of the states.
 use mathlib.Core.Path.{_≡_, refl, sym, ap, _∙_}
-use mathlib.Core.Bool.{Bool, false, not, _&&_, _||_, and-false, or-false}
+use mathlib.Core.Bool.{Bool, true, false, cond, not, _&&_, _||_, and-false, or-false}
 use mathlib.Core.List.{List}
 use mathlib.Core.Logic.{⊎-elim}
-use Prim.Native.Nat.{ℕ, _+_, _-_, _*_, _%_, _^_, _≤_, _<_, zero-le}
+use Prim.Native.Nat.{ℕ, zero, suc, _+_, _-_, _*_, _/_, _%_, _^_, _≤_, _<_, zero-le}
 use native.Mathlib.Nat.{mod-lt}
 use native.Mathlib.Omega.{arith}
-use lib.Dec.{eqb, leb, ltb}
+use lib.Dec.{eqb, ltb}
 use lib.ListN.{length, getD, set, replicate, length-set, getD-replicate}
 use lib.Seq.{getD-set-same, getD-set-other}
-use lib.Bits.{bitAnd}
+use lib.Bits.{bitAnd, bitOr}
 use lib.Count.{ones, trailingZeros}
-use borrow.Author.Tests.{eq-eqb, ne-eqb, eqb-true, lt-ltb, le-ltb, le-leb, lt-leb}
+use borrow.Author.Tests.{eq-eqb, ne-eqb, eqb-true, eqb-false, lt-ltb, le-ltb}
 use Rattle.theory.specs.Below.{count, first}
 use Rattle.theory.proofs.Below.{both-ways, lt-or-le, count-same, count-joined, first-is, first-le, first-below, first-here}
-use Rattle.theory.proofs.Below.{first-lower, first-upper, first-shift}
-use Rattle.theory.proofs.Bits.{bit-empty, bit-high, bit-minus, bit-one, ones-count, zeros-first, zeros-less}
-use Rattle.state_set.specs.Member.{inWord, inWords, inPart, setAt, Put}
+use Rattle.theory.proofs.Below.{first-lower, first-upper}
+use Rattle.theory.proofs.Bits.{bit, bit-empty, bit-high, bit-and, bit-or, bit-not, bit-minus, bit-lowest-out, ones-count, zeros-first, zeros-less}
+use Rattle.state_set.specs.Member.{inWord, inWords, isPart, inPart, lowestIn, setAt, Put, PutPart}
 
 module _ (low high : ℕ) where
   pub low-at : (q : ℕ) → q < 64 → inWords low high q ≡ inWord low q
@@ -109,11 +109,16 @@ module _ (low high : ℕ) where
 
 -- ---- sets in arrays
 
-pub set-written : (words : List ℕ) (i low high : ℕ) → i * 2 + 1 < length words
+-- a state of a set is below 128
+pub words-below : (low high q : ℕ) → high < 2 ^ 64 → (ltb q 128 && inWords low high q) ≡ inWords low high q
+words-below low high q h =
+    ⊎-elim (λ (l : q < 128). rw (lt-ltb q 128 l)) (λ (l : 128 ≤ q). rw (le-ltb q 128 l) (sym (words-past low high q h l))) (lt-or-le q 128)
+
+pub set-written : (words : List ℕ) (i low high : ℕ) → i * 2 + 1 < length words → high < 2 ^ 64
     → Put words i (inWords low high) (set (set words (i * 2) low) (i * 2 + 1) high)
-set-written words i low high l = record {
+set-written words i low high l h = record {
   size = length-set (set words (i * 2) low) (i * 2 + 1) high ∙ length-set words (i * 2) low;
-  here = λ q. rw (at-low, at-high);
+  here = λ q. rw (at-low, at-high) (words-below low high q h);
   elsewhere = λ j q ne. rw (other (j * 2) (λ e. ne (omega (arith, e))) (λ e. omega (arith, e)), other (j * 2 + 1) (λ e. omega (arith, e)) (λ e. ne (omega (arith, e))));
 }
   where
@@ -127,55 +132,153 @@ set-written words i low high l = record {
     other x a b = getD-set-other (set words (i * 2) low) (i * 2 + 1) x high 0 b ∙ getD-set-other words (i * 2) x low 0 a
 
 pub set-none : (size i q : ℕ) → i * 2 + 1 < size → setAt (replicate size 0) i q ≡ false
-set-none size i q l = rw (getD-replicate {A = ℕ} size (i * 2) 0 0 (omega (arith, l)), getD-replicate {A = ℕ} size (i * 2 + 1) 0 0 l) (words-none q)
+set-none size i q l =
+    rw (getD-replicate {A = ℕ} size (i * 2) 0 0 (omega (arith, l)), getD-replicate {A = ℕ} size (i * 2 + 1) 0 0 l, words-none q) (and-false (ltb q 128))
 
 -- ---- one word
 
 -- the words of a set as parts of it
-pub low-part : (low high q : ℕ) → low < 2 ^ 64 → inPart 0 low q ≡ (ltb q 64 && inWords low high q)
-unfolding inPart inWord
-low-part low high q h =
-    let e : q - 0 ≡ q = omega arith in
-    ⊎-elim
-    (λ (l : q < 64). rw (le-leb 0 q zero-le, e, lt-ltb q 64 l) (sym (low-at low high q l)))
-    (λ (l : 64 ≤ q). rw (le-leb 0 q zero-le, e, le-ltb q 64 l) (bit-high 64 low q h l))
-    (lt-or-le q 64)
-
-pub high-part : (low high q : ℕ) → inPart 64 high q ≡ (leb 64 q && inWords low high q)
+pub low-part : (low high q : ℕ) → inPart 0 low q ≡ (isPart 0 q && inWords low high q)
 unfolding inPart
-high-part low high q =
+low-part low high q = go (isPart 0 q) refl
+  where
+    go : (b : Bool) → isPart 0 q ≡ b → (b && inWord low (q % 64)) ≡ (b && inWords low high q)
+    go true h =
+        let e = eqb-true (q / 64) 0 h in
+        let z : q % 64 ≡ q = omega (arith, e) in
+        rw z (sym (low-at low high q (omega (arith, e))))
+    go false h = refl
+
+pub high-part : (low high q : ℕ) → inPart 1 high q ≡ (isPart 1 q && inWords low high q)
+unfolding inPart
+high-part low high q = go (isPart 1 q) refl
+  where
+    go : (b : Bool) → isPart 1 q ≡ b → (b && inWord high (q % 64)) ≡ (b && inWords low high q)
+    go true h =
+        let e = eqb-true (q / 64) 1 h in
+        let z : q % 64 ≡ q - 64 = omega (arith, e) in
+        rw z (sym (high-from low high q (omega (arith, e))))
+    go false h = refl
+
+-- word w of set i
+pub part-read : (words : List ℕ) (i w q : ℕ) → w < 2 → inPart w (getD words (i * 2 + w) 0) q ≡ (isPart w q && setAt words i q)
+part-read words i w q lw = by w lw ∙ below (isPart w q) refl
+  where
+    by : (w : ℕ) → w < 2 → inPart w (getD words (i * 2 + w) 0) q ≡ (isPart w q && inWords (getD words (i * 2) 0) (getD words (i * 2 + 1) 0) q)
+    by zero l = (let e : i * 2 + 0 ≡ i * 2 = omega arith in rw e (low-part (getD words (i * 2) 0) (getD words (i * 2 + 1) 0) q))
+    by (suc zero) l = high-part (getD words (i * 2) 0) (getD words (i * 2 + 1) 0) q
+    by (suc (suc w)) l = absurd (omega arith)
+
+    below : (b : Bool) → isPart w q ≡ b → (b && inWords (getD words (i * 2) 0) (getD words (i * 2 + 1) 0) q) ≡ (b && setAt words i q)
+    below true h = (let e = eqb-true (q / 64) w h in rw (lt-ltb q 128 (omega (arith, e, lw))))
+    below false h = refl
+
+-- it is stored
+pub part-written : (words : List ℕ) (i w word : ℕ) → w < 2 → i * 2 + w < length words → PutPart words i w (inPart w word) (set words (i * 2 + w) word)
+part-written words i w word lw l = record {
+  size = length-set words (i * 2 + w) word;
+  here = λ q. ⊎-elim
+      (λ (h : q < 128). rw (lt-ltb q 128 h) (here w q h lw l))
+      (λ (h : 128 ≤ q). rw (le-ltb q 128 h, ne-eqb (q / 64) w (λ e. omega (arith, e, lw, h))))
+      (lt-or-le q 128);
+  elsewhere = λ j q ne. rw (
+    getD-set-other words (i * 2 + w) (j * 2) word 0 (λ e. ne (omega (arith, e, lw))),
+    getD-set-other words (i * 2 + w) (j * 2 + 1) word 0 (λ e. ne (omega (arith, e, lw)))
+  );
+}
+  where
+    here : (w q : ℕ) → q < 128 → w < 2 → i * 2 + w < length words
+        → inWords (getD (set words (i * 2 + w) word) (i * 2) 0) (getD (set words (i * 2 + w) word) (i * 2 + 1) 0) q
+        ≡ cond (isPart w q) (inPart w word q) (inWords (getD words (i * 2) 0) (getD words (i * 2 + 1) 0) q)
+    here zero q lq lw l =
+        let e : i * 2 + 0 ≡ i * 2 = omega arith in
+        rw (e, getD-set-same words (i * 2) word 0 (omega (arith, l)), getD-set-other words (i * 2) (i * 2 + 1) word 0 (λ z. omega (arith, z)))
+        (low (isPart 0 q) refl)
+      where
+        low : (b : Bool) → isPart 0 q ≡ b
+            → inWords word (getD words (i * 2 + 1) 0) q ≡ cond b (inPart 0 word q) (inWords (getD words (i * 2) 0) (getD words (i * 2 + 1) 0) q)
+        low true t = sym (low-part word (getD words (i * 2 + 1) 0) q ∙ rw t)
+        low false t =
+            let m : 64 ≤ q = (let ne = eqb-false (q / 64) 0 t in ⊎-elim (λ (z : q < 64). absurd (ne (omega (arith, z)))) (λ z. z) (lt-or-le q 64)) in
+            high-from word (getD words (i * 2 + 1) 0) q m ∙ sym (high-from (getD words (i * 2) 0) (getD words (i * 2 + 1) 0) q m)
+    here (suc zero) q lq lw l =
+        rw (getD-set-same words (i * 2 + 1) word 0 l, getD-set-other words (i * 2 + 1) (i * 2) word 0 (λ z. omega (arith, z)))
+        (high (isPart 1 q) refl)
+      where
+        high : (b : Bool) → isPart 1 q ≡ b
+            → inWords (getD words (i * 2) 0) word q ≡ cond b (inPart 1 word q) (inWords (getD words (i * 2) 0) (getD words (i * 2 + 1) 0) q)
+        high true t = sym (high-part (getD words (i * 2) 0) word q ∙ rw t)
+        high false t =
+            let ne = eqb-false (q / 64) 1 t in
+            let z : q < 64 = ⊎-elim (λ (y : q < 64). y) (λ (y : 64 ≤ q). absurd (ne (omega (arith, y, lq)))) (lt-or-le q 64) in
+            low-at (getD words (i * 2) 0) word q z ∙ sym (low-at (getD words (i * 2) 0) (getD words (i * 2 + 1) 0) q z)
+    here (suc (suc w)) q lq lw l = absurd (omega arith)
+
+-- operations on words
+pub part-and : (w a b q : ℕ) → inPart w (bitAnd a b) q ≡ (inPart w a q && inPart w b q)
+unfolding inPart inWord
+part-and w a b q = rw (bit-and a b (q % 64)) (go (isPart w q) (bit a (q % 64)) (bit b (q % 64)))
+  where
+    go : (c x y : Bool) → (c && (x && y)) ≡ ((c && x) && (c && y))
+    go true x y = refl
+    go false x y = refl
+
+pub part-or : (w a b q : ℕ) → inPart w (bitOr a b) q ≡ (inPart w a q || inPart w b q)
+unfolding inPart inWord
+part-or w a b q = rw (bit-or a b (q % 64)) (go (isPart w q) (bit a (q % 64)) (bit b (q % 64)))
+  where
+    go : (c x y : Bool) → (c && (x || y)) ≡ ((c && x) || (c && y))
+    go true x y = refl
+    go false x y = refl
+
+pub part-minus : (w a b q : ℕ) → a < 2 ^ 64 → b < 2 ^ 64 → inPart w (bitAnd a (2 ^ 64 - 1 - b)) q ≡ (inPart w a q && not (inPart w b q))
+unfolding inPart inWord
+part-minus w a b q h k = rw (bit-minus 64 a b h k (q % 64)) (go (isPart w q) (bit a (q % 64)) (bit b (q % 64)))
+  where
+    go : (c x y : Bool) → (c && (x && not y)) ≡ ((c && x) && not (c && y))
+    go true x y = refl
+    go false x y = refl
+
+-- an empty word, and one that is not
+pub part-none : (w q : ℕ) → inPart w 0 q ≡ false
+unfolding inPart inWord
+part-none w q = rw (bit-empty (q % 64), and-false (isPart w q))
+
+-- two words with all their bits
+pub words-full : (q : ℕ) → q < 128 → inWords (2 ^ 64 - 1) (2 ^ 64 - 1) q ≡ true
+unfolding inWord
+words-full q l =
     ⊎-elim
-    (λ (l : q < 64). rw (lt-leb 64 q l))
-    (λ (l : 64 ≤ q). rw (le-leb 64 q l, high-from low high q l))
+    (λ (k : q < 64). low-at (2 ^ 64 - 1) (2 ^ 64 - 1) q k ∙ full q k)
+    (λ (k : 64 ≤ q). high-from (2 ^ 64 - 1) (2 ^ 64 - 1) q k ∙ full (q - 64) (omega (arith, k, l)))
     (lt-or-le q 64)
+  where
+    full : (i : ℕ) → i < 64 → bit (2 ^ 64 - 1) i ≡ true
+    full i l = bit-not 64 0 i (omega arith) l ∙ rw (bit-empty i)
 
-module _ (from word : ℕ) where
-  -- a state of the word is `from` and the number of its bit
-  part-at : (i : ℕ) → inPart from word (from + i) ≡ inWord word i
-  unfolding inPart
-  part-at i = (let e : from + i - from ≡ i = omega arith in rw (le-leb from (from + i) (omega arith), e))
+pub lowest-at : (w word : ℕ) → word < 2 ^ 64 → 0 < word → inPart w word (lowestIn w word) ≡ true
+unfolding inPart inWord
+lowest-at w word h l =
+    let t = trailingZeros 64 word in
+    let less = zeros-less 64 word h l in
+    let d : (t + w * 64) / 64 ≡ w = omega (arith, less) in
+    let m : (t + w * 64) % 64 ≡ t = omega (arith, less) in
+    let z = zeros-first 64 word in
+    rw (d, m, eq-eqb w w refl, z) (first-here (bit word) 0 64 (omega (arith, less, z)))
 
-  pub part-first : trailingZeros 64 word + from ≡ first (inPart from word) from 64
-  unfolding inWord
-  part-first = (let e = first-shift from 64 (inPart from word) (inWord word) part-at in let z = zeros-first 64 word in omega (arith, e, z))
+pub lowest-below : (w word : ℕ) → w < 2 → word < 2 ^ 64 → 0 < word → lowestIn w word < 128
+lowest-below w word lw h l = omega (arith, zeros-less 64 word h l, lw)
 
-  pub part-past : word < 2 ^ 64 → (q : ℕ) → from + 64 ≤ q → inPart from word q ≡ false
-  unfolding inPart inWord
-  part-past h q l = rw (le-leb from q (omega (arith, l))) (bit-high 64 word (q - from) h (omega (arith, l)))
+pub lowest-taken : (w word q : ℕ) → word < 2 ^ 64 → 0 < word → inPart w (bitAnd word (word - 1)) q ≡ (inPart w word q && not (eqb q (lowestIn w word)))
+unfolding inPart inWord
+lowest-taken w word q h l = rw (bit-lowest-out 64 word h l (q % 64)) (go (isPart w q) refl)
+  where
+    same : q / 64 ≡ w → eqb (q % 64) (trailingZeros 64 word) ≡ eqb q (lowestIn w word)
+    same e = both-ways
+        (λ k. eq-eqb q (lowestIn w word) (let z = eqb-true (q % 64) (trailingZeros 64 word) k in omega (arith, z, e)))
+        (λ k. eq-eqb (q % 64) (trailingZeros 64 word) (let z = eqb-true q (lowestIn w word) k in let s = zeros-less 64 word h l in omega (arith, z, s, e)))
 
-  pub part-without : word < 2 ^ 64 → (q : ℕ) → from ≤ q → q < from + 64 → (p : ℕ)
-      → inPart from (bitAnd word (2 ^ 64 - 1 - (1 * 2 ^ (q - from)) % 2 ^ 64)) p ≡ (inPart from word p && not (eqb p q))
-  unfolding inPart inWord
-  part-without h q l m p =
-      ⊎-elim
-      (λ (b : p < from). rw (lt-leb from p b))
-      (λ (b : from ≤ p).
-      rw (le-leb from p b)
-      (bit-minus 64 word ((1 * 2 ^ (q - from)) % 2 ^ 64) h (mod-lt _ (omega arith)) (p - from)
-      ∙ rw (bit-one 64 (q - from) (omega (arith, l, m)) (p - from), same b)))
-      (lt-or-le p from)
-    where
-      same : from ≤ p → eqb (p - from) (q - from) ≡ eqb p q
-      same b = both-ways
-          (λ t. eq-eqb p q (let e = eqb-true (p - from) (q - from) t in omega (arith, e, l, b)))
-          (λ t. eq-eqb (p - from) (q - from) (let e = eqb-true p q t in omega (arith, e)))
+    go : (b : Bool) → isPart w q ≡ b
+        → (b && (bit word (q % 64) && not (eqb (q % 64) (trailingZeros 64 word)))) ≡ ((b && bit word (q % 64)) && not (eqb q (lowestIn w word)))
+    go true k = rw (same (eqb-true (q / 64) w k))
+    go false k = refl

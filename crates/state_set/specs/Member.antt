@@ -3,7 +3,8 @@ use mathlib.Core.Path.{_≡_}
 use mathlib.Core.Bool.{Bool, cond, _&&_}
 use mathlib.Core.List.{List}
 use Prim.Native.Nat.{ℕ, _+_, _-_, _*_, _/_, _%_, _^_}
-use lib.Dec.{eqb, leb, ltb}
+use lib.Dec.{eqb, ltb}
+use lib.Count.{trailingZeros}
 use lib.ListN.{length, getD}
 use Rattle.state_set.specs.declared.StateSet.{StateSet}
 
@@ -18,9 +19,17 @@ inWords low high q = cond (ltb q 64) (inWord low q) (inWord high (q - 64))
 unfoldable pub member : StateSet → ℕ → Bool
 member s q = inWords (s .low) (s .high) q
 
--- state q is in a word whose first bit stands for the state `from`
+-- state q is one of part w: those that word w of a set has
+abbrev pub isPart : ℕ → ℕ → Bool
+isPart w q = eqb (q / 64) w
+
+-- it is in a word that holds states of part w
 unfoldable pub inPart : ℕ → ℕ → ℕ → Bool
-inPart from word q = leb from q && inWord word (q - from)
+inPart w word q = isPart w q && inWord word (q % 64)
+
+-- the lowest state of such a word
+abbrev pub lowestIn : ℕ → ℕ → ℕ
+lowestIn w word = trailingZeros 64 word + w * 64
 
 -- the set holds the states below n that pass the test, and no other
 pub record Exactly (n : ℕ) (f : ℕ → Bool) (s : StateSet) : Type 0 where
@@ -30,10 +39,16 @@ pub record Exactly (n : ℕ) (f : ℕ → Bool) (s : StateSet) : Type 0 where
 
 -- state q is in set i
 abbrev pub setAt : List ℕ → ℕ → ℕ → Bool
-setAt words i q = inWords (getD words (i * 2) 0) (getD words (i * 2 + 1) 0) q
+setAt words i q = ltb q 128 && inWords (getD words (i * 2) 0) (getD words (i * 2 + 1) 0) q
 
 -- set i became that of the states that pass the test
 pub record Put (before : List ℕ) (i : ℕ) (test : ℕ → Bool) (after : List ℕ) : Type 0 where
   pub size : length after ≡ length before
   pub here : (q : ℕ) → setAt after i q ≡ test q
+  pub elsewhere : (j q : ℕ) → (j ≡ i → ⊥) → setAt after j q ≡ setAt before j q
+
+-- word w of set i became that of the states that pass the test
+pub record PutPart (before : List ℕ) (i w : ℕ) (test : ℕ → Bool) (after : List ℕ) : Type 0 where
+  pub size : length after ≡ length before
+  pub here : (q : ℕ) → setAt after i q ≡ cond (isPart w q) (test q) (setAt before i q)
   pub elsewhere : (j q : ℕ) → (j ≡ i → ⊥) → setAt after j q ≡ setAt before j q

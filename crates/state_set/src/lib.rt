@@ -1,13 +1,13 @@
 // Sets of states, each two 64-bit words: the states below 64 in the lower word, the others in the upper one.
 use theory::STATE_LIMIT;
 ghost use mathlib.Core.Path.{_≡_};
-ghost use mathlib.Core.Bool.{false, not, _&&_, _||_};
-ghost use Prim.Native.Nat.{ℕ, _+_, _*_, _≤_, _<_};
-ghost use lib.Dec.{eqb, leb, ltb};
+ghost use mathlib.Core.Bool.{true, false, not, _&&_, _||_};
+ghost use Prim.Native.Nat.{ℕ, _+_, _*_, _<_};
+ghost use lib.Dec.{eqb, ltb};
 ghost use lib.ListN.{length};
 ghost use Rattle.theory.specs.Below.{count, first};
 ghost use Rattle.theory.specs.Monitor.{stateLimit};
-ghost use Rattle.state_set.specs.Member.{inPart, member, setAt, Put};
+ghost use Rattle.state_set.specs.Member.{isPart, inPart, lowestIn, member, setAt, Put, PutPart};
 
 // The words of a set, and the states of a word.
 pub const WORDS: usize = 2;
@@ -46,16 +46,16 @@ impl StateSet {
         words[i * WORDS + 1] = self.high;
     }
 
-    // The states below 64, as a word.
+    // The lower word: the states of part 0.
     pub fn low(self) -> u64
-        ensures { λ r. ⌜ ((q : ℕ) → inPart 0 r q ≡ (ltb q 64 && member self q)) ⌝ }
+        ensures { λ r. ⌜ ((q : ℕ) → inPart 0 r q ≡ (isPart 0 q && member self q)) ⌝ }
     {
         self.low
     }
 
-    // The others, as a word whose first bit stands for 64.
+    // The upper word: the states of part 1.
     pub fn high(self) -> u64
-        ensures { λ r. ⌜ ((q : ℕ) → inPart 64 r q ≡ (leb 64 q && member self q)) ⌝ }
+        ensures { λ r. ⌜ ((q : ℕ) → inPart 1 r q ≡ (isPart 1 q && member self q)) ⌝ }
     {
         self.high
     }
@@ -143,22 +143,42 @@ impl StateSet {
     }
 }
 
-// ---- the states of one word, whose first bit stands for the state `from`
+// ---- one word of a set: the states of part w, of which there are 64
 
-// The lowest, or the state behind the last that the word can have.
-pub fn lowest_in(word: u64, from: usize) -> usize
-    requires { ⌜ from ≤ 64 ⌝ }
-    ensures first { λ r. ⌜ r ≡ first (inPart from word) from 64 ⌝ }
-    ensures last { λ _. ⌜ ((q : ℕ) → from + 64 ≤ q → inPart from word q ≡ false) ⌝ }
+// Word w of set i of an array of words.
+pub fn word_at(words: &[u64], i: usize, w: usize) -> u64
+    requires { ⌜ (w < 2)
+        × (i * 2 + w < length (now words)) ⌝ }
+    ensures { λ r. ⌜ ((q : ℕ) → inPart w r q ≡ (isPart w q && setAt (now (words .entry)) i q)) ⌝ }
 {
-    u64::trailing_zeros(word) as usize + from
+    words[i * WORDS + w]
 }
 
-// The word without q.
-pub fn take_out(word: u64, from: usize, q: usize) -> u64
-    requires { ⌜ (from ≤ q)
-        × (q < from + 64) ⌝ }
-    ensures { λ r. ⌜ ((p : ℕ) → inPart from r p ≡ (inPart from word p && not (eqb p q))) ⌝ }
+// Makes it this word.
+pub fn put_word(words: &mut [u64], i: usize, w: usize, word: u64)
+    requires { ⌜ (w < 2)
+        × (i * 2 + w < length (now words)) ⌝ }
+    ensures { λ _. ⌜ PutPart (now (words .entry)) i w (inPart w word) (now (words .exit)) ⌝ }
 {
-    word & !(1 << (q - from))
+    words[i * WORDS + w] = word;
+}
+
+// The lowest state of a word that has one.
+pub fn lowest_of(word: u64, w: usize) -> usize
+    requires { ⌜ (w < 2)
+        × (0 < word) ⌝ }
+    ensures lowest { λ r. ⌜ r ≡ lowestIn w word ⌝ }
+    ensures found { λ r. ⌜ (inPart w word r ≡ true)
+        × (r < stateLimit) ⌝ }
+{
+    u64::trailing_zeros(word) as usize + w * WORD
+}
+
+// The word without its lowest state.
+pub fn without_lowest(word: u64) -> u64
+    requires { ⌜ 0 < word ⌝ }
+    ensures { λ r. ⌜ ((w q : ℕ) → inPart w r q ≡ (inPart w word q && not (eqb q (lowestIn w word))))
+        × (r < word) ⌝ }
+{
+    word & (word - 1)
 }

@@ -1,6 +1,6 @@
 -- The binary digits of a word, as tests: what the code's operations on words do to them.
 use mathlib.Core.Path.{_≡_, refl, sym, ap, _∙_}
-use mathlib.Core.Bool.{Bool, false, cond, not, _&&_, _||_, and-true, and-false, or-false}
+use mathlib.Core.Bool.{Bool, true, false, cond, not, _&&_, _||_, and-true, and-false, or-false}
 use mathlib.Core.Logic.{_⊎_, inl, inr}
 use Prim.Native.Nat.{ℕ, zero, suc, _+_, _-_, _*_, _/_, _%_, _^_, _≤_, _<_, suc-le-suc, min, max}
 use native.Mathlib.Nat.{mod-lt, zero-lt-suc, zero-div, div-one, div-div-eq-div-mul, div-eq-of-lt, pow-suc, pow-succ', lt-of-lt-of-le, not-suc-le-zero}
@@ -90,7 +90,7 @@ bit-and a b i = ap odd (and-shr a b i) ∙ last (a / 2 ^ i) (b / 2 ^ i)
     last x y = (let e : bitAnd x y % 2 ≡ min (x % 2) (y % 2) = omega (arith, and-step x y) in rw e (and-digit (digit x) (digit y)))
 
 -- `!x` on words of k digits
-bit-not : (k x i : ℕ) → x < 2 ^ k → i < k → bit (2 ^ k - 1 - x) i ≡ not (bit x i)
+pub bit-not : (k x i : ℕ) → x < 2 ^ k → i < k → bit (2 ^ k - 1 - x) i ≡ not (bit x i)
 bit-not zero x i h l = absurd (not-suc-le-zero l)
 bit-not (suc k) x zero h l = rw (bit-zero (2 ^ suc k - 1 - x), bit-zero x, last) (not-digit (digit x))
   where
@@ -166,3 +166,30 @@ zeros-less (suc k) m h l = go (digit m) refl (zeros-less k (m / 2) (omega (arith
     go : {d : ℕ} → Digit d → m % 2 ≡ d → (0 < m / 2 → trailingZeros k (m / 2) < k) → under d (trailingZeros k (m / 2)) < suc k
     go on e less = omega arith
     go off e less = suc-le-suc (less (omega (arith, e)))
+
+-- the digits of m and of m - 1: the lowest of m, and no other, is taken out
+lowest-out : (k m : ℕ) → m < 2 ^ k → 0 < m → (p : ℕ) → (bit m p && bit (m - 1) p) ≡ (bit m p && not (eqb p (trailingZeros k m)))
+unfolding trailingZeros
+lowest-out zero m h l p = absurd (omega arith)
+lowest-out (suc k) m h l zero = rw (bit-zero m, bit-zero (m - 1)) (go (digit m) refl)
+  where
+    go : {d : ℕ} → Digit d → m % 2 ≡ d → (odd m && odd (m - 1)) ≡ (odd m && not (eqb 0 (under (m % 2) (trailingZeros k (m / 2)))))
+    go on e = (let z : (m - 1) % 2 ≡ 0 = omega (arith, e) in rw (e, z))
+    go off e = rw e
+lowest-out (suc k) m h l (suc p) = rw (bit-suc m p, bit-suc (m - 1) p) (go (digit m) refl (lowest-out k (m / 2) (omega (arith, pow-suc 2 k))))
+  where
+    go : {d : ℕ} → Digit d → m % 2 ≡ d
+        → (0 < m / 2 → (p : ℕ) → (bit (m / 2) p && bit (m / 2 - 1) p) ≡ (bit (m / 2) p && not (eqb p (trailingZeros k (m / 2)))))
+        → (bit (m / 2) p && bit ((m - 1) / 2) p) ≡ (bit (m / 2) p && not (eqb (suc p) (under (m % 2) (trailingZeros k (m / 2)))))
+    go on e rest = (let z : (m - 1) / 2 ≡ m / 2 = omega (arith, e) in rw (e, z, eqb·suc-zero p) (twice (bit (m / 2) p)))
+      where
+        twice : (b : Bool) → (b && b) ≡ (b && true)
+        twice true = refl
+        twice false = refl
+    go off e rest =
+        let z : (m - 1) / 2 ≡ m / 2 - 1 = omega (arith, e, l) in
+        rw (e, z, eqb·suc-suc p (trailingZeros k (m / 2))) (rest (omega (arith, e, l)) p)
+
+-- `m & (m - 1)`
+pub bit-lowest-out : (k m : ℕ) → m < 2 ^ k → 0 < m → (p : ℕ) → bit (bitAnd m (m - 1)) p ≡ (bit m p && not (eqb p (trailingZeros k m)))
+bit-lowest-out k m h l p = bit-and m (m - 1) p ∙ lowest-out k m h l p

@@ -8,6 +8,7 @@ use borrow.Author.Needs.{needs}
 use borrow.Author.Tests.{le-leb, lt-leb, le-ltb, lt-ltb, eq-eqb, ne-eqb}
 use Rattle.theory.specs.Answer.{Question, asks}
 use Rattle.theory.specs.Monitor.{stateLimit, symbolLimit}
+use Rattle.monitor.specs.Format.{statesOf}
 use Rattle.monitor.specs.Questions.{question2, question3, question4, question5, headQuestions, noValues}
 use Rattle.monitor.proofs.judge_head.Statement.{statement}
 use Rattle.monitor.proofs.judge_head.Tie as tie
@@ -22,7 +23,9 @@ one c = rw (le-leb 3 _ (c .before .if1 .left))
 
 two : (c : tie.After-shared-slice-known3) → (let b = c .before .before .before .before .before .before .args .body .now in
     Left b (question3 b ∷ question4 b ∷ question5 b ∷ []))
-two c = one (c .before .before .before) ∙ rw (le-leb 1 _ (c .before .before .if2 .left), le-leb _ stateLimit (c .before .if3 .left))
+two c =
+    let n = statesOf (c .before .before .before .before .before .before .args .body .now) in
+    one (c .before .before .before) ∙ rw (le-leb 1 _ (c .before .before .if2 .left), le-leb n stateLimit (omega (arith, c .before .if3 .left)))
 
 four : (c : tie.After-shared-slice-known4) → (let b = c .before .before .before .before .before .before .before .before .before .before .args .body .now in
     Left b (question5 b ∷ []))

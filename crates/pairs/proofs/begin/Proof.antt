@@ -13,23 +13,23 @@ use Rattle.pairs.proofs.begin.Statement.{statement}
 use Rattle.pairs.proofs.begin.Tie as tie
 
 abbrev Inv-loop : tie.InvT-loop
-Inv-loop square₀ alike₀ fresh₀ outputs test n all rows₀ at₀ square alike fresh rows at =
+Inv-loop square₀ alike₀ fresh₀ outputs all test n rows₀ at₀ square alike fresh rows at =
     Same square₀ alike₀ fresh₀ square alike fresh × Walking test outputs at square alike fresh (member rows)
 
 abbrev μ-loop : tie.MeasureT-loop
-μ-loop square₀ alike₀ fresh₀ outputs test n all rows₀ at₀ square alike fresh rows at = n * n - at .number
+μ-loop square₀ alike₀ fresh₀ outputs all test n rows₀ at₀ square alike fresh rows at = n * n - at .number
 
 loop-holds : tie.Need-loop-holds Inv-loop μ-loop
 loop-holds c =
     let c₅ = c .before .before .before .before .before in (
       record { square-same = refl; alike-same = refl; other-same = refl },
-      walking-none (c₅ .before .before .pre .1) (c .first-pair .ensures) (c .before .empty .ensures),
+      walking-none (c₅ .before .pre .2) (c .first-pair .ensures) (c .before .empty .ensures),
     )
 
 mul-if1 : tie.Need-mul-if1 Inv-loop μ-loop
 mul-if1 c =
     let c₅ = c .before .before .before .before .before in
-    (let l = c₅ .before .before .before .pre .0 in let m : _ ≤ squareSize = mul-le-mul l l in omega (arith, m))
+    (let l = c₅ .before .before .pre .0 in let m : _ ≤ squareSize = mul-le-mul l l in omega (arith, m))
 
 begin-pair-requires : tie.Need-begin-pair-requires Inv-loop μ-loop
 begin-pair-requires c κs =
@@ -37,14 +37,14 @@ begin-pair-requires c κs =
     let c₁₀ = c₅ .before .before .before .before .before in
     let W = c .before .before .before .before .loop .inv .1 in
     let t = c .before .before .if1 .taken in
-    (c₁₀ .before .before .pre .0, on-row (W .on) t, on-column (W .on) t, W .begun .kept .size, W .begun .kept .fresh-size)
+    (c₁₀ .before .pre .0, on-row (W .on) t, on-column (W .on) t, W .begun .kept .size, W .begun .kept .fresh-size)
 
 add-if2 : tie.Need-add-if2 Inv-loop μ-loop
 add-if2 c =
     let c₅ = c .before .before .before .before .before in
     let c₁₀ = c₅ .before .before .before .before .before in
     let c₁₅ = c₁₀ .before .before .before .before .before in
-    let small = c₁₅ .before .before .before .pre .0 in
+    let small = c₁₅ .before .before .pre .0 in
     let l = on-column (c₁₀ .loop .inv .1 .on) (c₅ .before .before .before .if1 .taken) in
     omega (arith, l, small)
 
@@ -55,7 +55,7 @@ end-row-requires c κs =
     let c₁₅ = c₁₀ .before .before .before .before .before in
     let c₂₀ = c₁₅ .before .before .before .before .before in
     let W = c₁₀ .before .before .before .loop .inv .1 in
-    let small = c₂₀ .before .pre .0 in
+    let small = c₂₀ .pre .0 in
     let l = on-row (W .on) (c₁₀ .before .if1 .taken) in
     let m = W .begun .kept .alike-size in
     let f = W .begun .kept .fresh-size in
@@ -68,7 +68,7 @@ next-pair-requires c κs =
     let c₁₀ = c₅ .before .before .before .before .before in
     let c₁₅ = c₁₀ .before .before .before .before .before in
     let c₂₀ = c₁₅ .before .before .before .before .before in
-    (c₂₀ .before .before .before .before .pre .0, c₁₀ .before .before .before .before .if1 .taken, c₁₅ .before .loop .inv .1 .on .is)
+    (c₂₀ .before .before .before .pre .0, c₁₀ .before .before .before .before .if1 .taken, c₁₅ .before .loop .inv .1 .on .is)
 
 loop-less : tie.Need-loop-less Inv-loop μ-loop
 loop-less c =
@@ -83,15 +83,15 @@ loop-again c =
     let c₁₀ = c₅ .before .before .before .before .before in
     let c₁₅ = c₁₀ .before .before .before .before .before in
     let c₂₀ = c₁₅ .before .before .before .before .before in
-    let c₂₅ = c₂₀ .before .before .before .before .before in
+    let pre = c₂₀ .before .before .before .before .pre in
     let same = c₁₅ .before .before .loop .inv .0 in (
       record {
         square-same = c₁₀ .before .square .given ∙ same .square-same;
         alike-same = c .before .before .alike .given ∙ same .alike-same;
         other-same = c₅ .before .before .before .before .fresh .given ∙ same .other-same;
       },
-      walking-down (c₁₅ .before .before .loop .inv .1) (c₁₅ .if1 .taken) (c .next-pair .ensures) (c₂₅ .pre .0) (c₁₀ .before .before .begin-pair .ensures) (c₅ .before .if2 .taken)
-          (c .before .before .before .end-row .ensures _ (c₂₀ .all-below .ensures)),
+      walking-down (c₁₅ .before .before .loop .inv .1) (c₁₅ .if1 .taken) (c .next-pair .ensures) (pre .0) (c₁₀ .before .before .begin-pair .ensures) (c₅ .before .if2 .taken)
+          (c .before .before .before .end-row .ensures _ (pre .1)),
     )
 
 next-pair-requires-2 : tie.Need-next-pair-requires-2 Inv-loop μ-loop
@@ -99,7 +99,7 @@ next-pair-requires-2 c κs =
     let c₅ = c .before .before .before .before .before in
     let c₁₀ = c₅ .before .before .before .before .before in
     let c₁₅ = c₁₀ .before .before .before .before .before in
-    (c₁₅ .before .before .before .before .pre .0, c₅ .before .before .before .before .if1 .taken, c₁₀ .before .loop .inv .1 .on .is)
+    (c₁₅ .before .before .before .pre .0, c₅ .before .before .before .before .if1 .taken, c₁₀ .before .loop .inv .1 .on .is)
 
 loop-less-2 : tie.Need-loop-less-2 Inv-loop μ-loop
 loop-less-2 c =
@@ -112,14 +112,13 @@ loop-again-2 c =
     let c₅ = c .before .before .before .before .before in
     let c₁₀ = c₅ .before .before .before .before .before in
     let c₁₅ = c₁₀ .before .before .before .before .before in
-    let c₂₀ = c₁₅ .before .before .before .before .before in
     let same = c₁₀ .before .before .loop .inv .0 in (
       record {
         square-same = c₅ .before .square .given ∙ same .square-same;
         alike-same = same .alike-same;
         other-same = c .before .before .before .before .fresh .given ∙ same .other-same;
       },
-      walking-along (c₁₀ .before .before .loop .inv .1) (c₁₀ .if1 .taken) (c .next-pair2 .ensures) (c₂₀ .pre .0) (c₅ .before .before .begin-pair .ensures) (c .before .if2 .left),
+      walking-along (c₁₀ .before .before .loop .inv .1) (c₁₀ .if1 .taken) (c .next-pair2 .ensures) (c₁₅ .before .before .before .before .pre .0) (c₅ .before .before .begin-pair .ensures) (c .before .if2 .left),
     )
 
 same-length : tie.Need-same-length Inv-loop μ-loop
@@ -138,6 +137,6 @@ returns c = walking-over (c .before .before .loop .inv .1) (c .if1 .left)
 pub begin-spec : {M : Type 1} → statement M
 begin-spec =
     tie.close (tie.spec
-    Inv-loop μ-loop (λ c κs. search needs) (λ c κs. search needs) (λ c κs. search needs) loop-holds mul-if1 begin-pair-requires add-if2
+    Inv-loop μ-loop (λ c κs. search needs) (λ c κs. search needs) loop-holds mul-if1 begin-pair-requires add-if2
     end-row-requires next-pair-requires loop-less loop-again next-pair-requires-2 loop-less-2 loop-again-2 same-length same-length-2
     same-length-3 returns)

@@ -1,71 +1,90 @@
--- `spread_state` meets its contract: the symbols below a are done.
-use mathlib.Core.Path.{_≡_, refl, _∙_}
-use Prim.Native.Nat.{_-_, _≤_}
+-- `spread_state` meets its contract: block after block.
+use mathlib.Core.Path.{_∙_}
 use native.Mathlib.Omega.{arith}
 use borrow.Author.Needs.{needs}
-use Rattle.theory.specs.Automaton.{Automaton}
-use Rattle.state_set.specs.Member.{member}
-use Rattle.pairs.specs.Layers.{Idle, GoesAt, stateDone}
-use Rattle.pairs.proofs.Rounds.{Same, room-same, idle-kept, state-begins, state-more}
+use Rattle.pairs.proofs.Rounds.{same-first, same-then, room-same, one-block, four-blocks}
 use Rattle.pairs.proofs.spread_state.Statement.{statement}
 use Rattle.pairs.proofs.spread_state.Tie as tie
 
-abbrev Inv-loop : tie.InvT-loop
-Inv-loop square₀ alike₀ next₀ predecessors n k opened x front r found₀ a₀ square alike next found a =
-    (a ≤ k) × Same square₀ alike₀ next₀ square alike next
-    × ((g : Automaton) → g .states ≡ n → g .symbols ≡ k → Idle n (member opened) alike₀
-    → GoesAt g r x (member front) (stateDone g x a) predecessors square₀ alike₀ next₀ (member found₀) square alike next (member found))
-
-abbrev μ-loop : tie.MeasureT-loop
-μ-loop square₀ alike₀ next₀ predecessors n k opened x front r found₀ a₀ square alike next found a = k - a
-
-loop-holds : tie.Need-loop-holds Inv-loop μ-loop
-loop-holds c = (search needs, record { square-same = refl; alike-same = refl; other-same = refl }, λ g n e idle. state-begins g _ 0)
-
-spread-symbol-requires : tie.Need-spread-symbol-requires Inv-loop μ-loop
-spread-symbol-requires c κs =
-    let c₅ = c .before .before .before .before .before in
-    let p = c₅ .before .before .before .before .pre in
-    (room-same (p .0) (c .before .before .before .before .loop .inv .1), p .2, omega (arith, c .before .before .before .loop-test .taken, p .1), p .3)
-
-loop-again : tie.Need-loop-again Inv-loop μ-loop
-loop-again c =
-    let c₅ = c .before .before .before .before .before in
-    let c₁₀ = c₅ .before .before .before .before .before in
-    let at = c₁₀ .before .loop in
-    let l = c₁₀ .loop-test .taken in
-    let same = at .inv .1 in (
-      search needs,
-      record {
-        square-same = c₅ .square .given ∙ same .square-same;
-        alike-same = c .before .before .before .alike .given ∙ same .alike-same;
-        other-same = c .before .next .given ∙ same .other-same;
-      },
-      λ g n e idle.
-          let before = at .inv .2 g n e idle in
-          state-more g _ (at .a) before (c₅ .before .spread-symbol .ensures g n (omega (arith, l, e)) (idle-kept idle (before .shrinks))),
-    )
-
-same-length : tie.Need-same-length Inv-loop μ-loop
-same-length c = c .before .loop .inv .1 .square-same
-
-same-length-2 : tie.Need-same-length-2 Inv-loop μ-loop
-same-length-2 c = c .before .loop .inv .1 .alike-same
-
-same-length-3 : tie.Need-same-length-3 Inv-loop μ-loop
-same-length-3 c = c .before .loop .inv .1 .other-same
-
-returns : tie.Need-returns Inv-loop μ-loop
+returns : tie.Need-returns
 returns c =
-    let c₅ = c .before .before .before .before .before in
-    let at = c .before .loop in
-    let l = c .loop-test .left in
-    let m = at .inv .0 in
-    let e : at .a ≡ c₅ .before .args .k = omega (arith, l, m) in
-    rw e at (at .inv .2)
+    let c₁₀ = c .before .before .before .before .before .before .before .before .before .before in
+    let s = c₁₀ .before .before .before .before .before .before .before .before .before in
+    λ g e ek. one-block (s .args .x) (s .args .k) (omega (arith, e, c .if1 .taken)) (c .before .before .before .before .before .before .before .before .before .spread-block .ensures g e ek)
+
+spread-block-requires-2 : tie.Need-spread-block-requires-2
+spread-block-requires-2 c κs =
+    let c₁₀ = c .before .before .before .before .before .before .before .before .before .before in
+    let c₂₀ = c₁₀ .before .before .before .before .before .before .before .before .before .before in
+    let p = c₂₀ .before .before .before .pre in
+    let same = same-then same-first (c₁₀ .before .before .square .given) (c₁₀ .alike .given) (c .before .before .before .before .before .before .before .before .next .given) in
+    (room-same (p .0) same (c .before .before .before .before .before .before .active .given), p .1, p .2, p .3, omega arith, omega arith, p .4)
+
+spread-block-requires-3 : tie.Need-spread-block-requires-3
+spread-block-requires-3 c κs =
+    let c₁₀ = c .before .before .before .before .before .before .before .before .before .before in
+    let c₂₀ = c₁₀ .before .before .before .before .before .before .before .before .before .before in
+    let c₃₀ = c₂₀ .before .before .before .before .before .before .before .before .before .before in
+    let p = c₃₀ .before .before .before .before .before .before .pre in
+    let same = same-then same-first (c₁₀ .before .square2 .given ∙ c₂₀ .before .before .before .before .before .square .given) (c .before .before .before .before .before .before .before .before .before .alike2 .given ∙ c₂₀ .before .before .before .alike .given) (c .before .before .before .before .before .before .before .next2 .given ∙ c₂₀ .before .next .given) in
+    (room-same (p .0) same (c .before .before .before .before .before .active2 .given ∙ c₁₀ .before .before .before .before .before .before .before .before .before .active .given), p .1, p .2, p .3, omega arith, omega arith, p .4)
+
+spread-block-requires-4 : tie.Need-spread-block-requires-4
+spread-block-requires-4 c κs =
+    let c₁₀ = c .before .before .before .before .before .before .before .before .before .before in
+    let c₂₀ = c₁₀ .before .before .before .before .before .before .before .before .before .before in
+    let c₃₀ = c₂₀ .before .before .before .before .before .before .before .before .before .before in
+    let c₄₀ = c₃₀ .before .before .before .before .before .before .before .before .before .before in
+    let p = c₄₀ .before .before .before .before .before .before .before .before .before .pre in
+    let same = same-then same-first (c₁₀ .before .square3 .given ∙ c₂₀ .before .before .before .before .square2 .given ∙ c₃₀ .before .before .before .before .before .before .before .before .square .given) (c .before .before .before .before .before .before .before .before .before .alike3 .given ∙ c₂₀ .before .before .alike2 .given ∙ c₃₀ .before .before .before .before .before .before .alike .given) (c .before .before .before .before .before .before .before .next3 .given ∙ c₂₀ .next2 .given ∙ c₃₀ .before .before .before .before .next .given) in
+    (room-same (p .0) same (c .before .before .before .before .before .active3 .given ∙ c₁₀ .before .before .before .before .before .before .before .before .active2 .given ∙ c₃₀ .before .before .active .given), p .1, p .2, p .3, omega arith, omega arith, p .4)
+
+same-length-5 : tie.Need-same-length-5
+same-length-5 c =
+    let c₁₀ = c .before .before .before .before .before .before .before .before .before .before in
+    let c₂₀ = c₁₀ .before .before .before .before .before .before .before .before .before .before in
+    let c₃₀ = c₂₀ .before .before .before .before .before .before .before .before .before .before in
+    let c₄₀ = c₃₀ .before .before .before .before .before .before .before .before .before .before in
+    c .before .before .before .before .before .before .before .square4 .given ∙ c₂₀ .square3 .given ∙ c₃₀ .before .before .before .square2 .given ∙ c₄₀ .before .before .before .before .before .before .before .square .given
+
+same-length-6 : tie.Need-same-length-6
+same-length-6 c =
+    let c₁₀ = c .before .before .before .before .before .before .before .before .before .before in
+    let c₂₀ = c₁₀ .before .before .before .before .before .before .before .before .before .before in
+    let c₃₀ = c₂₀ .before .before .before .before .before .before .before .before .before .before in
+    let c₄₀ = c₃₀ .before .before .before .before .before .before .before .before .before .before in
+    c .before .before .before .before .before .alike4 .given ∙ c₁₀ .before .before .before .before .before .before .before .before .alike3 .given ∙ c₃₀ .before .alike2 .given ∙ c₄₀ .before .before .before .before .before .alike .given
+
+same-length-7 : tie.Need-same-length-7
+same-length-7 c =
+    let c₁₀ = c .before .before .before .before .before .before .before .before .before .before in
+    let c₂₀ = c₁₀ .before .before .before .before .before .before .before .before .before .before in
+    let c₃₀ = c₂₀ .before .before .before .before .before .before .before .before .before .before in
+    let c₄₀ = c₃₀ .before .before .before .before .before .before .before .before .before .before in
+    c .before .before .before .next4 .given ∙ c₁₀ .before .before .before .before .before .before .next3 .given ∙ c₂₀ .before .before .before .before .before .before .before .before .before .next2 .given ∙ c₄₀ .before .before .before .next .given
+
+same-length-8 : tie.Need-same-length-8
+same-length-8 c =
+    let c₁₀ = c .before .before .before .before .before .before .before .before .before .before in
+    let c₂₀ = c₁₀ .before .before .before .before .before .before .before .before .before .before in
+    let c₃₀ = c₂₀ .before .before .before .before .before .before .before .before .before .before in
+    let c₄₀ = c₃₀ .before .before .before .before .before .before .before .before .before .before in
+    c .before .active4 .given ∙ c₁₀ .before .before .before .before .active3 .given ∙ c₂₀ .before .before .before .before .before .before .before .active2 .given ∙ c₄₀ .before .active .given
+
+returns-2 : tie.Need-returns-2
+returns-2 c =
+    let c₁₀ = c .before .before .before .before .before .before .before .before .before .before in
+    let c₂₀ = c₁₀ .before .before .before .before .before .before .before .before .before .before in
+    let c₃₀ = c₂₀ .before .before .before .before .before .before .before .before .before .before in
+    let c₄₀ = c₃₀ .before .before .before .before .before .before .before .before .before .before in
+    let c₅₀ = c₄₀ .before .before .before .before .before .before .before .before .before .before in
+    let s = c₅₀ .before .before .before .before .before .before .before .before in
+    let few = s .pre .0 .few in
+    λ g e ek. four-blocks (s .args .x) (s .args .k) (omega (arith, e, few)) (c₄₀ .before .before .before .before .before .before .before .before .spread-block .ensures g e ek)
+    (c₃₀ .before .before .before .before .spread-block2 .ensures g e ek) (c₂₀ .before .spread-block3 .ensures g e ek) (c .before .before .before .before .before .before .before .before .spread-block4 .ensures g e ek)
 
 pub spread-state-spec : {M : Type 1} → statement M
 spread-state-spec =
     tie.close (tie.spec
-    Inv-loop μ-loop loop-holds spread-symbol-requires (λ c. search needs) (λ c. search needs) loop-again same-length same-length-2
-    same-length-3 returns)
+    (λ c κs. search needs) (λ c. search needs) (λ c. search needs) (λ c. search needs) (λ c. search needs) returns spread-block-requires-2
+    spread-block-requires-3 spread-block-requires-4 same-length-5 same-length-6 same-length-7 same-length-8 returns-2)

@@ -1,77 +1,110 @@
--- `spread_symbol` meets its contract: of the rows from which a leads to x, the open ones are done, one word after the other.
+-- `spread_symbol` meets its contract: of the rows from which a leads to x, the active ones are done.
 use mathlib.Core.Path.{_≡_, sym, _∙_}
 use mathlib.Core.Bool.{true, _&&_}
 use Prim.Native.Nat.{ℕ, _+_, _*_, _<_}
 use native.Mathlib.Omega.{arith}
-use lib.Dec.{leb, ltb}
+use lib.Bits.{bitAnd}
+use lib.Dec.{ltb}
 use borrow.Author.Needs.{needs}
 use Rattle.theory.specs.Automaton.{Closed}
 use Rattle.theory.specs.Monitor.{symbolLimit}
 use Rattle.theory.proofs.Below.{and-left, and-right}
-use Rattle.state_set.specs.Member.{member, setAt}
+use Rattle.state_set.specs.Member.{isPart, inPart, member, setAt}
+use Rattle.state_set.proofs.Words.{part-and, part-or}
 use Rattle.pairs.specs.Layers.{Preceding, Into}
-use Rattle.pairs.proofs.Visit.{empty-none}
-use Rattle.pairs.proofs.Rounds.{symbol-done, set-nothing, set-both}
+use Rattle.pairs.proofs.Visit.{word-none}
+use Rattle.pairs.proofs.Gather.{into-both}
+use Rattle.pairs.proofs.Rounds.{symbol-done, set-nothing}
 use Rattle.pairs.proofs.spread_symbol.Statement.{statement}
 use Rattle.pairs.proofs.spread_symbol.Tie as tie
-
-predecessors-of-requires : tie.Need-predecessors-of-requires
-predecessors-of-requires c κs = (let p = c .before .before .before .before .pre in omega (arith, p .0 .predecessors-sets, p .1, p .2))
 
 -- there is none
 returns : tie.Need-returns
 returns c =
-    let c₅ = c .before .before .before .before .before in
-    let s = c₅ .before .before .before in
-    let none = empty-none _ (c .before .is-empty .ensures) (c .if1 .taken) in
-    λ g e la idle.
-    symbol-done g (s .args .x) (s .args .a) (member (c .before .before .intersection .result)) (member (s .args .opened)) (omega (arith, e, s .pre .1)) la (λ q. c .before .before .intersection .ensures q ∙ rw (c .before .before .before .predecessors-of .ensures q)) (rw e idle)
-    (set-nothing g (s .args .x) (s .args .a) (member (c .before .before .intersection .result)) (λ p lp. none p (omega (arith, lp, e, s .pre .0 .few))))
+    let s = c .before .before .before .before .before .before .before .before .before in
+    let a = s .args .a in
+    let v = s .args .v in
+    let leading = c .before .before .before .word-at in
+    let active = c .before .word-at2 in
+    let left = inPart v (bitAnd (leading .result) (active .result)) in
+    λ g e ek. symbol-done (s .args .x) a v (s .args .w) left (omega (arith, e, s .pre .3)) (omega (arith, ek, s .pre .4))
+    (λ p. part-and v (leading .result) (active .result) p ∙ rw (leading .ensures p, active .ensures p))
+    (set-nothing (s .args .x) a (isPart (s .args .w)) left (word-none v (c .if1 .taken)))
 
 leading-into-requires : tie.Need-leading-into-requires
 leading-into-requires c κs =
-    let c₅ = c .before .before .before .before .before in
-    (let p = c₅ .before .before .before .pre in (p .0 .few, p .2, p .0 .predecessors-sets))
+    let p = c .before .before .before .before .before .before .before .before .before .before .pre in
+    let front = c .before .before .before .before .before .before .before .before .before .before .args .front in (
+      omega (arith, p .2, p .4),
+      p .0 .predecessors-sets,
+      record { at = λ y t. p .1 .at y (and-right (isPart 0 y) (member front y) (sym (c .low .ensures y) ∙ t)) },
+      omega arith,
+      p .6,
+    )
 
-spread-part-requires : tie.Need-spread-part-requires
-spread-part-requires c κs =
-    let c₅ = c .before .before .before .before .before in
-    let c₁₀ = c₅ .before .before .before .before .before in
-    let p = c₁₀ .before .before .before .pre in
-    let room = p .0 in
-    (room .few, room .rows, room .alike-sets, room .next-sets, omega arith, p .3)
+leading-into-requires-2 : tie.Need-leading-into-requires-2
+leading-into-requires-2 c κs =
+    let p = c .before .before .before .before .before .before .before .before .before .before .before .before .pre in
+    let front = c .before .before .before .before .before .before .before .before .before .before .before .before .args .front in (
+      omega (arith, p .2, p .4),
+      p .0 .predecessors-sets,
+      record { at = λ y t. p .1 .at y (and-right (isPart 1 y) (member front y) (sym (c .high .ensures y) ∙ t)) },
+      omega arith,
+      p .6,
+    )
 
-spread-part-requires-2 : tie.Need-spread-part-requires-2
-spread-part-requires-2 c κs =
+spread-rows-requires : tie.Need-spread-rows-requires
+spread-rows-requires c κs =
     let c₁₀ = c .before .before .before .before .before .before .before .before .before .before in
-    let c₂₀ = c₁₀ .before .before .before .before .before .before .before .before .before .before in
-    let p = c₂₀ .before .before .before .before .pre in
+    let s = c₁₀ .before .before .before .before .before .before .before in
+    let p = s .pre in
     let room = p .0 in
-    (room .few, rw (c .before .before .before .before .before .before .before .before .before .square .given) (room .rows), rw (c .before .before .before .before .before .before .before .alike .given) (room .alike-sets), rw (c .before .before .before .before .before .next .given) (room .next-sets), omega arith, p .3)
+    let v = s .args .v in
+    let leading = c₁₀ .before .word-at in
+    let active = c .before .before .before .before .before .before .before .before .before .word-at2 in (
+      room .few,
+      room .rows,
+      room .alike-sets,
+      room .next-sets,
+      room .active-sets,
+      record { at = λ y t. room .predecessors-in (s .args .x) (s .args .a) y (p .3) (p .4)
+          (and-right (isPart v y) _ (sym (leading .ensures y)
+          ∙ and-left (inPart v (leading .result) y) (inPart v (active .result) y) (sym (part-and v (leading .result) (active .result) y) ∙ t))) },
+      p .5,
+      p .6,
+      p .7,
+    )
 
 returns-2 : tie.Need-returns-2
 returns-2 c =
     let c₁₀ = c .before .before .before .before .before .before .before .before .before .before in
     let c₂₀ = c₁₀ .before .before .before .before .before .before .before .before .before .before in
-    let c₃₀ = c₂₀ .before .before .before .before .before .before .before .before .before .before in
-    let s = c₃₀ .before in
-    let left = c₂₀ .before .before .before .before .before .intersection .result in
-    let is : (q : ℕ) → member left q
-    ≡ (setAt (s .args .predecessors .now) (s .args .x * symbolLimit + s .args .a) q && member (s .args .opened) q) =
-    λ q. c₂₀ .before .before .before .before .before .intersection .ensures q ∙ rw (c₂₀ .before .before .before .before .before .before .predecessors-of .ensures q) in
-    λ g e la idle.
-    let lx : s .args .x < g .states = omega (arith, e, s .pre .1) in
-    let into : Closed g → Preceding g (λ q b. ltb q (g .states)) (s .args .predecessors .now) → Into g (s .args .a) (member (s .args .front))
-    (member (c₂₀ .before .before .leading-into .result)) = λ closed P. c₂₀ .before .before .leading-into .ensures g e la P closed in
-    let inside : (p : ℕ) → member left p ≡ true → setAt (s .args .predecessors .now) (s .args .x * symbolLimit + s .args .a) p ≡ true =
-    λ p t. and-left _ (member (s .args .opened) p) (sym (is p) ∙ t) in
-    symbol-done g (s .args .x) (s .args .a) (member left) (member (s .args .opened)) lx la is (rw e idle)
-    (set-both (s .args .a) (member left) _ _ (c₁₀ .before .before .before .before .before .before .before .before .low .ensures) (c .before .before .before .before .before .before .before .high .ensures)
-    (c₁₀ .before .before .before .before .before .before .before .spread-part .ensures g (s .args .x) (s .args .a) _ _ e lx la into (λ p t. inside p (and-right (ltb p 64) (member left p) (sym (c₁₀ .before .before .before .before .before .before .before .before .low .ensures p) ∙ t))))
-    (c .before .before .before .before .before .before .spread-part2 .ensures g (s .args .x) (s .args .a) _ _ e lx la into (λ p t. inside p (and-right (leb 64 p) (member left p) (sym (c .before .before .before .before .before .before .before .high .ensures p) ∙ t)))))
+    let s = c₂₀ .before .before .before .before .before .before in
+    let x = s .args .x in
+    let a = s .args .a in
+    let v = s .args .v in
+    let w = s .args .w in
+    let front = s .args .front in
+    let leading = c₂₀ .word-at in
+    let active = c₁₀ .before .before .before .before .before .before .before .before .word-at2 in
+    let low = c₁₀ .before .before .before .before .before .leading-into in
+    let high = c₁₀ .before .before .before .leading-into2 in
+    let both = part-and v (leading .result) (active .result) in
+    λ g e ek.
+    let lx : x < g .states = omega (arith, e, s .pre .3) in
+    let la : a < g .symbols = omega (arith, ek, s .pre .4) in
+    let few = s .pre .0 .few in
+    symbol-done x a v w (inPart v (bitAnd (leading .result) (active .result))) lx la
+    (λ p. both p ∙ rw (leading .ensures p, active .ensures p))
+    (c .before .before .before .before .before .before .before .before .spread-rows .ensures g x a (member front) (s .args .predecessors .now) e lx la
+    (λ closed P. into-both closed la (omega (arith, e, few)) (c₁₀ .before .before .before .before .before .before .low .ensures) (c₁₀ .before .before .before .before .high .ensures)
+    (part-or w (low .result) (high .result)) (low .ensures g e la P closed) (high .ensures g e la P closed))
+    (λ p t. and-right (isPart v p) (setAt (s .args .predecessors .now) (x * symbolLimit + a) p)
+    (sym (leading .ensures p) ∙ and-left (inPart v (leading .result) p) (inPart v (active .result) p) (sym (both p) ∙ t))))
 
 pub spread-symbol-spec : {M : Type 1} → statement M
 spread-symbol-spec =
     tie.close (tie.spec
-    predecessors-of-requires (λ c κs. search needs) (λ c κs. search needs) returns leading-into-requires (λ c κs. search needs)
-    spread-part-requires (λ c κs. search needs) spread-part-requires-2 (λ c. search needs) (λ c. search needs) (λ c. search needs) returns-2)
+    (λ c. search needs) (λ c. search needs) (λ c κs. search needs) (λ c κs. search needs) (λ c. search needs) returns (λ c κs. search needs)
+    leading-into-requires (λ c κs. search needs) leading-into-requires-2 spread-rows-requires (λ c. search needs) (λ c. search needs)
+    (λ c. search needs) (λ c. search needs) returns-2)

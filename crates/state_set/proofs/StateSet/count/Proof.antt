@@ -10,7 +10,9 @@ cast-result : tie.Need-cast-result
 cast-result c = omega (arith, ones-le 64 (c .before .args .self .low) (omega arith))
 
 cast-result-2 : tie.Need-cast-result-2
-cast-result-2 c = omega (arith, ones-le 64 (c .before .before .args .self .high) (omega arith))
+cast-result-2 c =
+    let s = c .before .before .args .self in
+    omega (arith, ones-le 64 (s .low) (omega arith), ones-le 64 (s .high) (omega arith))
 
 add-result : tie.Need-add-result
 add-result c =

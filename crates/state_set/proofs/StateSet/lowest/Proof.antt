@@ -16,10 +16,10 @@ returns c =
     words-first-low (s .low) (s .high) (omega (arith, c .before .if1 .taken)) (omega arith)
 
 cast-result-2 : tie.Need-cast-result-2
-cast-result-2 c = omega (arith, trailing-le 64 (c .before .before .before .args .self .high))
+cast-result-2 c = (let s = c .before .before .before .args .self in omega (arith, trailing-le 64 (s .low), trailing-le 64 (s .high)))
 
 add-result : tie.Need-add-result
-add-result c = omega (arith, trailing-le 64 (c .before .before .before .args .self .high))
+add-result c = (let s = c .before .before .before .args .self in omega (arith, trailing-le 64 (s .low), trailing-le 64 (s .high)))
 
 returns-2 : tie.Need-returns-2
 unfolding member

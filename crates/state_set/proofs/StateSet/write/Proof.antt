@@ -1,4 +1,5 @@
 -- `write` meets its contract: two words stored.
+use native.Mathlib.Omega.{arith}
 use borrow.Author.Needs.{needs}
 use Rattle.state_set.specs.Member.{member}
 use Rattle.state_set.proofs.Words.{set-written}
@@ -7,7 +8,7 @@ use Rattle.state_set.proofs.StateSet.write.Tie as tie
 
 returns : tie.Need-returns
 unfolding member
-returns c = set-written _ _ _ _ (c .pre)
+returns c = set-written _ _ _ _ (c .pre) (omega arith)
 
 pub write-spec : {M : Type 1} → statement M
 write-spec =
