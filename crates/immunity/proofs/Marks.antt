@@ -33,7 +33,7 @@ module _ {limit n k start : ℕ} {vs ts : List ℕ} (t : Table limit n k start v
   table = tableOf n k start vs ts
 
   -- the outcome for one fault set by marks, from an area that every witness fits
-  pub marks-answer : (set room : ℕ) (square : List ℕ) → Squared (automatonOf n k ts) (passing Differ vs) square → horizon limit ≤ room
+  pub marks-answer : (set room : ℕ) (square : List ℕ) → Squared (automatonOf n k ts) (passing Differ vs) square → horizon n ≤ room
       → {r : Answer FaultFigures} → r ≡ answerOf (shape n k start) vs vs square ts set room → r ≡ answered (tableFigures table 3 set)
   marks-answer set room square s large e =
       table-answer t Differ 3 set vs square marks-read s room e ∙ room-enough limit table (t .well-formed) 3 set room large (tableFigures table 3 set)

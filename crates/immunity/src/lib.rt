@@ -12,7 +12,7 @@ use witness::WITNESS_ROOM;
 use witness::Witness;
 ghost use mathlib.Core.Path.{_≡_};
 ghost use mathlib.Core.List.{[], _∷_};
-ghost use Prim.Native.Nat.{_<_};
+ghost use Prim.Native.Nat.{_≤_, _<_};
 ghost use lib.ListN.{length};
 ghost use Rattle.theory.specs.Lists.{each};
 ghost use Rattle.theory.specs.Answer.{answered, written};
@@ -86,6 +86,13 @@ fn scratch() -> [u8; WITNESS_ROOM]
     [0u8; WITNESS_ROOM]
 }
 
+// An area long enough for every witness of a table of few states.
+fn scratch_few() -> [u8; FEW * FEW + FEW + 2]
+    ensures { λ r. ⌜ length r ≡ horizon 16 ⌝ }
+{
+    [0u8; FEW * FEW + FEW + 2]
+}
+
 // The column of a rank: its fault alone, by marks. The sent trace of a witness stays in the area.
 fn column_of(
     marks: &[u8],
@@ -98,10 +105,9 @@ fn column_of(
     requires { ⌜ TableIn t marks nexts
         × Squared (automatonIn t (now nexts)) (passing Differ (now marks)) (now square)
         × (rank < kinds)
-        × (length (now area) ≡ horizon stateLimit) ⌝ }
-    ensures column { λ r. ⌜ finding (r .finding)
+        × (horizon (t .states) ≤ length (now area)) ⌝ }
+    ensures { λ r. ⌜ finding (r .finding)
         ≡ answered (columnFigures rank (monitorIn t (marks .entry) (nexts .entry))) ⌝ }
-    ensures area { λ _. ⌜ length (now (area .exit)) ≡ horizon stateLimit ⌝ }
 {
     let set = FaultSet::empty().with(faults::kind_at(rank));
     let found = witness::find_first(marks, marks, square, nexts, t, set, area);
@@ -111,17 +117,23 @@ fn column_of(
 }
 
 // The columns of a table: each fault alone, in the written order, all from one square.
-fn columns_of(marks: &[u8], square: &[u16], nexts: &[u8], t: Shape) -> [Column; KINDS]
+fn columns_of(
+    marks: &[u8],
+    square: &[u16],
+    nexts: &[u8],
+    t: Shape,
+    area: &mut [u8],
+) -> [Column; KINDS]
     requires { ⌜ TableIn t marks nexts
-        × Squared (automatonIn t (now nexts)) (passing Differ (now marks)) (now square) ⌝ }
+        × Squared (automatonIn t (now nexts)) (passing Differ (now marks)) (now square)
+        × (horizon (t .states) ≤ length (now area)) ⌝ }
     ensures { λ r. ⌜ found r ≡ cardAsking [] (monitorIn t (marks .entry) (nexts .entry)) .columns ⌝ }
 {
-    let mut area = scratch();
-    let first = column_of(marks, square, nexts, t, 0, &mut area);
+    let first = column_of(marks, square, nexts, t, 0, area);
     let mut columns = [first; KINDS];
     let mut rank = 1;
     while rank < KINDS {
-        let column = column_of(marks, square, nexts, t, rank, &mut area);
+        let column = column_of(marks, square, nexts, t, rank, area);
         columns[rank] = column;
         rank += 1;
     }
@@ -129,26 +141,35 @@ fn columns_of(marks: &[u8], square: &[u16], nexts: &[u8], t: Shape) -> [Column; 
 }
 
 // The columns of a table, with a square that is filled.
-fn columns_in(square: &mut [u16], marks: &[u8], nexts: &[u8], t: Shape) -> [Column; KINDS]
+fn columns_in(
+    square: &mut [u16],
+    marks: &[u8],
+    nexts: &[u8],
+    t: Shape,
+    area: &mut [u8],
+) -> [Column; KINDS]
     requires { ⌜ TableIn t marks nexts
-        × Blank (t .states) (now square) ⌝ }
+        × Blank (t .states) (now square)
+        × (horizon (t .states) ≤ length (now area)) ⌝ }
     ensures { λ r. ⌜ found r ≡ cardAsking [] (monitorIn t (marks .entry) (nexts .entry)) .columns ⌝ }
 {
     pairs::enter_distances(square, nexts, t.states, t.symbols, marks, Test::Differ);
-    columns_of(marks, square, nexts, t)
+    columns_of(marks, square, nexts, t, area)
 }
 
-// The same: the square has as many rows as the table needs, few or all.
+// The same: the square and the area are as large as the table needs, few states or all.
 fn all_columns(marks: &[u8], nexts: &[u8], t: Shape) -> [Column; KINDS]
     requires { ⌜ TableIn t marks nexts ⌝ }
     ensures { λ r. ⌜ found r ≡ cardAsking [] (monitorIn t (marks .entry) (nexts .entry)) .columns ⌝ }
 {
     if t.states <= FEW {
         let mut square = pairs::blank_few();
-        return columns_in(&mut square, marks, nexts, t);
+        let mut area = scratch_few();
+        return columns_in(&mut square, marks, nexts, t, &mut area);
     }
     let mut square = pairs::blank();
-    columns_in(&mut square, marks, nexts, t)
+    let mut area = scratch();
+    columns_in(&mut square, marks, nexts, t, &mut area)
 }
 
 // The card of an opened table.

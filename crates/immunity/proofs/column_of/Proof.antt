@@ -22,9 +22,9 @@ returns c =
     let set = w .before .before .with in
     let kind = w .before .before .before .kind-at in
     let said = c .finding-of .ensures ∙ w .find-first .ensures .0 in
-    let found = marks-answer (s .pre .0) (set .result .bits) _ (a .square .now) (s .pre .1) (le-of-eq (sym (s .pre .3))) said in
+    let found = marks-answer (s .pre .0) (set .result .bits) _ (a .square .now) (s .pre .1) (s .pre .3) said in
     let none = w .before .before .before .before .empty .ensures in
-    (alone (monitorIn (a .t) (a .marks) (a .nexts)) (a .rank) (kind .result) (kind .ensures) none (set .ensures) found, search needs)
+    alone (monitorIn (a .t) (a .marks) (a .nexts)) (a .rank) (kind .result) (kind .ensures) none (set .ensures) found
 
 pub column-of-spec : {M : Type 1} → statement M
 column-of-spec =
