@@ -3,7 +3,7 @@
 #include <stddef.h>
 #include <stdint.h>
 
-enum { STATES = 64, SYMBOLS = 16, LOSS = 1, CORRUPTION = 2, REPEAT = 4, SWAP = 8 };
+enum { STATES = 128, SYMBOLS = 16, LOSS = 1, CORRUPTION = 2, REPEAT = 4, SWAP = 8 };
 
 // No sent trace of a witness is longer.
 enum { WITNESS = STATES * STATES + STATES + 2 };
@@ -53,11 +53,15 @@ struct card {
 // Of a question of trust IMMUNE says that the verdict can be believed.
 enum finding { IMMUNE, VULNERABLE, NO_ROOM };
 
-enum finding examine(const struct table *t, int set, int reading, uint8_t *area, int room, struct witness *w);
-struct card card_of(const struct table *t);
+// A baseline's functions: the fault question, the question of trust, which only (a) knows, and the card.
+struct baseline {
+    enum finding (*examine)(const struct table *t, int set, int reading, uint8_t *area, int room, struct witness *w);
+    enum finding (*believe)(const struct table *t, int set, int reading, int verdict, uint8_t *area, int room, struct witness *w);
+    struct card (*card_of)(const struct table *t);
+};
 
-// The question of trust. Only (a) knows it: in (b) the function is missing, and its address is null.
-enum finding believe(const struct table *t, int set, int reading, int verdict, uint8_t *area, int room, struct witness *w) __attribute__((weak));
+// The same baseline for tables of up to 64 states, where a set of states is one word, and of up to 128.
+extern const struct baseline one_word, two_words;
 
 // The fault step of this kind at state p: the states after the sent and after the received messages, and the sent messages. Returns how many are sent.
 static inline int strike(const struct table *t, int p, int kind, int first, int second, int *x, int *y, uint8_t *sent)

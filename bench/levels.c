@@ -3,38 +3,38 @@
 // but the largest split the blocks of this one. Sets of states are words. Only states that the start reaches are looked at, nearest first, and
 // no further than the best total found so far allows. The question of trust is not answered here: where it tells two states apart depends on which
 // of them was sent, and a partition knows no order.
-#include "bench.h"
+#include "states.h"
 #include <string.h>
 
 enum { MANY = 1 << 20 };
 
 // The block of each state.
-typedef uint8_t partition[STATES];
+typedef uint8_t partition[MOST];
 
 // Only states without a mark are searched: all that a marked state leads to has its mark, so that no fault at it does harm.
 struct search {
     const struct table *t;
-    const uint8_t *outputs;             // what each state reads
-    uint8_t classes[STATES];            // the same by classes
-    uint64_t marked[3];                 // the states with each mark
-    int depth;                          // how many layers there are
-    uint64_t layer[STATES];             // the unmarked states at each distance from the start
-    uint64_t reached;                   // all of them
-    uint64_t succ[STATES];              // the states that some symbol leads to from one of them
-    uint64_t pred_by[SYMBOLS][STATES];  // those of them from which a symbol leads to a state
-    partition round[STATES];            // the blocks after each round
-    int last;                           // the last round that split a block
+    const uint8_t *outputs;         // what each state reads
+    uint8_t classes[MOST];          // the same by classes
+    states marked[3];               // the states with each mark
+    int depth;                      // how many layers there are
+    states layer[MOST];             // the unmarked states at each distance from the start
+    states reached;                 // all of them
+    states succ[MOST];              // the states that some symbol leads to from one of them
+    states pred_by[SYMBOLS][MOST];  // those of them from which a symbol leads to a state
+    partition round[MOST];          // the blocks after each round
+    int last;                       // the last round that split a block
 };
 
 // The blocks of a round.
 struct blocks {
     int count;
-    uint64_t open;            // the states that are not alone in their block
-    uint64_t set[STATES];     // the states of a block
-    uint8_t size[STATES];     // how many they are
-    uint8_t root[STATES];     // the block that a block was part of before this round
-    uint8_t largest[STATES];  // the largest part of a block
-    partition of;             // the block of a state
+    states open;            // the states that are not alone in their block
+    states set[MOST];       // the states of a block
+    uint8_t size[MOST];     // how many they are
+    uint8_t root[MOST];     // the block that a block was part of before this round
+    uint8_t largest[MOST];  // the largest part of a block
+    partition of;           // the block of a state
 };
 
 struct choice {
@@ -42,9 +42,9 @@ struct choice {
 };
 
 // Takes the lowest state out of the set.
-static inline int pop(uint64_t *set)
+static inline int pop(states *set)
 {
-    int q = __builtin_ctzll(*set);
+    int q = lowest(*set);
     *set &= *set - 1;
     return q;
 }
@@ -56,23 +56,23 @@ static void explore(struct search *m)
     const struct table *t = m->t;
     memset(m->marked, 0, sizeof m->marked);
     for (int q = 0; q < t->n; q++)
-        m->marked[t->marks[q]] |= 1ull << q;
+        m->marked[t->marks[q]] |= only(q);
     for (int a = 0; a < t->k; a++)
         memset(m->pred_by[a], 0, t->n * sizeof m->pred_by[a][0]);
-    uint64_t front = 1ull << t->start & m->marked[0];
+    states front = only(t->start) & m->marked[0];
     m->reached = 0;
     m->depth = 0;
     while (front) {
-        uint64_t found = 0;
+        states found = 0;
         m->layer[m->depth++] = front;
         m->reached |= front;
         while (front) {
             int q = pop(&front);
             const uint8_t *row = t->next + q * t->k;
-            uint64_t succ = 0;
+            states succ = 0;
             for (int a = 0; a < t->k; a++) {
-                m->pred_by[a][row[a]] |= 1ull << q;
-                succ |= 1ull << row[a];
+                m->pred_by[a][row[a]] |= only(q);
+                succ |= only(row[a]);
             }
             m->succ[q] = succ;
             found |= succ;
@@ -82,15 +82,15 @@ static void explore(struct search *m)
 }
 
 // The states with the mark, and the reached ones from which some trace leads to it: layers from the last to the first, until nothing is added.
-static uint64_t reaching(const struct search *m, int mark)
+static states reaching(const struct search *m, int mark)
 {
-    uint64_t set = m->marked[mark], before;
+    states set = m->marked[mark], before;
     do {
         before = set;
         for (int d = m->depth - 1; d >= 0; d--)
-            for (uint64_t rest = m->layer[d] & ~set; rest;) {
+            for (states rest = m->layer[d] & ~set; rest;) {
                 int q = pop(&rest);
-                set |= (uint64_t)((m->succ[q] & set) != 0) << q;
+                set |= (states)((m->succ[q] & set) != 0) << q;
             }
     } while (set != before && m->reached & ~set);
     return set;
@@ -107,28 +107,28 @@ static int class_of(int mark, bool truth, bool falsity)
 
 static void read_classes(struct search *m)
 {
-    uint64_t truth = reaching(m, 1), falsity = reaching(m, 2);
+    states truth = reaching(m, 1), falsity = reaching(m, 2);
     for (int q = 0; q < m->t->n; q++)
-        m->classes[q] = class_of(m->t->marks[q], truth >> q & 1, falsity >> q & 1);
+        m->classes[q] = class_of(m->t->marks[q], has(truth, q), has(falsity, q));
 }
 
 static int monitorability(const struct search *m)
 {
     static const uint8_t weak[] = {0, 1, 0, 1, 2, 3};
-    uint64_t truth = reaching(m, 1), falsity = reaching(m, 2);
+    states truth = reaching(m, 1), falsity = reaching(m, 2);
     int q = m->t->start;
     if (m->reached & ~truth & ~falsity)
         return 3;
-    return weak[class_of(m->t->marks[q], truth >> q & 1, falsity >> q & 1)];
+    return weak[class_of(m->t->marks[q], has(truth, q), has(falsity, q))];
 }
 
 // ---- the rounds
 
 // Makes a block of `part`, which is some of block b and not all.
-static void split(struct blocks *p, int b, uint64_t part)
+static void split(struct blocks *p, int b, states part)
 {
     int c = p->count++;
-    uint64_t rest = p->set[b] ^ part;
+    states rest = p->set[b] ^ part;
     p->set[b] = rest;
     p->set[c] = part;
     p->root[c] = p->root[b];
@@ -145,12 +145,12 @@ static void split(struct blocks *p, int b, uint64_t part)
 }
 
 // Splits every block into the states that are in `within` and those that are not.
-static void split_by(struct blocks *p, uint64_t within)
+static void split_by(struct blocks *p, states within)
 {
     within &= p->open;
     while (within) {
-        int b = p->of[__builtin_ctzll(within)];
-        uint64_t part = within & p->set[b];
+        int b = p->of[lowest(within)];
+        states part = within & p->set[b];
         within ^= part;
         if (part != p->set[b])
             split(p, b, part);
@@ -158,7 +158,7 @@ static void split_by(struct blocks *p, uint64_t within)
 }
 
 // Of each block that was split since there were `old` blocks, all parts but the largest. Returns how many.
-static int smaller_parts(struct blocks *p, int old, uint64_t *parts)
+static int smaller_parts(struct blocks *p, int old, states *parts)
 {
     for (int c = old; c < p->count; c++) {
         uint8_t *largest = &p->largest[p->root[c]];
@@ -179,13 +179,13 @@ static int smaller_parts(struct blocks *p, int old, uint64_t *parts)
 // Round 0: all states were one block, which is split by what they read. Marked states are not split any further.
 static void begin(const struct search *m, struct blocks *p)
 {
-    uint64_t all = m->reached | m->marked[1] | m->marked[2], reading[6] = {0};
+    states all = m->reached | m->marked[1] | m->marked[2], reading[6] = {0};
     p->count = 1;
     p->size[0] = p->root[0] = p->largest[0] = 0;
     p->set[0] = p->open = all;
     while (all) {
         int q = pop(&all);
-        reading[m->outputs[q]] |= 1ull << q;
+        reading[m->outputs[q]] |= only(q);
         p->of[q] = 0;
         p->size[0]++;
     }
@@ -197,7 +197,7 @@ static void begin(const struct search *m, struct blocks *p)
 static void refine(struct search *m)
 {
     struct blocks p;
-    uint64_t parts[STATES];
+    states parts[MOST];
     begin(m, &p);
     memcpy(m->round[0], p.of, sizeof p.of);
     m->last = 0;
@@ -206,9 +206,10 @@ static void refine(struct search *m)
         old = p.count;
         for (int i = 0; i < count; i++)
             for (int a = 0; a < m->t->k && p.open; a++) {
-                uint64_t into = 0;
-                for (uint64_t rest = parts[i]; rest;)
-                    into |= m->pred_by[a][pop(&rest)];
+                states into = 0;
+                EACH_WORD(w)
+                    for (uint64_t rest = word(parts[i], w); rest; rest &= rest - 1)
+                        into |= m->pred_by[a][lowest_in(rest, w)];
                 split_by(&p, into);
             }
         if (p.count > old)
@@ -264,16 +265,16 @@ static struct choice cheapest(const struct search *m, int set, int p, int most)
 
 // The fewest symbols sent in a harmful series, or MANY: plain symbols to a state, and the cheapest fault step there. The states where
 // that step can be go into `where`; without it, the number alone is wanted, and no state that gives the same number is looked for.
-static int least_total(const struct search *m, int set, uint64_t *where)
+static int least_total(const struct search *m, int set, states *where)
 {
     int total = MANY, strict = where == 0;
     for (int d = 0; d < m->depth && d + 1 + strict <= total; d++)
-        for (uint64_t rest = m->layer[d]; rest;) {
+        for (states rest = m->layer[d]; rest;) {
             int p = pop(&rest), most = total - d - strict, cost = cheapest(m, set, p, most).cost;
             if (cost > most)
                 continue;
             if (where)
-                *where = (d + cost < total ? 0 : *where) | 1ull << p;
+                *where = (d + cost < total ? 0 : *where) | only(p);
             total = d + cost;
         }
     return total;
@@ -282,22 +283,22 @@ static int least_total(const struct search *m, int set, uint64_t *where)
 // ---- the witness
 
 // Writes the first of the shortest traces from the start to a state of `where`. Returns its length, and the state in p.
-static int write_before(const struct search *m, uint64_t where, uint8_t *area, int *p)
+static int write_before(const struct search *m, states where, uint8_t *area, int *p)
 {
-    uint64_t toward[STATES + 1];  // by depth, the states from which the layers lead on to `where`
+    states toward[MOST + 1];  // by depth, the states from which the layers lead on to `where`
     toward[m->depth] = 0;
     for (int d = m->depth - 1; d >= 0; d--) {
         toward[d] = m->layer[d] & where;
-        for (uint64_t rest = toward[d + 1] ? m->layer[d] & ~where : 0; rest;) {
+        for (states rest = toward[d + 1] ? m->layer[d] & ~where : 0; rest;) {
             int q = pop(&rest);
-            toward[d] |= (uint64_t)((m->succ[q] & toward[d + 1]) != 0) << q;
+            toward[d] |= (states)((m->succ[q] & toward[d + 1]) != 0) << q;
         }
     }
     int d = 0;
-    for (*p = m->t->start; !(where >> *p & 1); d++) {
+    for (*p = m->t->start; !has(where, *p); d++) {
         const uint8_t *row = m->t->next + *p * m->t->k;
         int a = 0;
-        while (!(toward[d + 1] >> row[a] & 1))
+        while (!has(toward[d + 1], row[a]))
             a++;
         area[d] = a;
         *p = row[a];
@@ -319,7 +320,7 @@ static void write_apart(const struct search *m, int *x, int *y, int left, uint8_
     }
 }
 
-static struct witness witness_of(const struct search *m, int set, int total, uint64_t where, uint8_t *area)
+static struct witness witness_of(const struct search *m, int set, int total, states where, uint8_t *area)
 {
     int p, at = write_before(m, where, area, &p);
     struct choice c = cheapest(m, set, p, total - at);
@@ -333,10 +334,10 @@ static struct witness witness_of(const struct search *m, int set, int total, uin
     return w;
 }
 
-enum finding examine(const struct table *t, int set, int reading, uint8_t *area, int room, struct witness *w)
+static enum finding examine(const struct table *t, int set, int reading, uint8_t *area, int room, struct witness *w)
 {
     struct search m;
-    uint64_t where = 0;
+    states where = 0;
     m.t = t;
     m.outputs = reading == 3 ? t->marks : m.classes;
     explore(&m);
@@ -352,7 +353,7 @@ enum finding examine(const struct table *t, int set, int reading, uint8_t *area,
     return VULNERABLE;
 }
 
-struct card card_of(const struct table *t)
+static struct card card_of(const struct table *t)
 {
     struct search m;
     m.t = t;
@@ -366,3 +367,5 @@ struct card card_of(const struct table *t)
     }
     return card;
 }
+
+const struct baseline BASELINE = {.examine = examine, .card_of = card_of};

@@ -113,7 +113,7 @@ static void number(const char *words, unsigned n)
         out[used++] = digits[--i];
 }
 
-// A line is far shorter than half of the output's room.
+// Where there are several lines, each is far shorter than half of the output's room; the one line of `ask` fits it.
 static void end_line(void)
 {
     text("\n");
@@ -138,6 +138,11 @@ static void count(const char *words, long after)
 
 // ---- the answers
 
+static const struct baseline *baseline_for(const struct table *t)
+{
+    return t->n <= 64 ? &one_word : &two_words;
+}
+
 static void print_card(const uint8_t *body, int len)
 {
     static const char *words[] = {" pos", " neg", " both", " none"};
@@ -147,7 +152,7 @@ static void print_card(const uint8_t *body, int len)
         refusal(no, place);
         return;
     }
-    struct card card = card_of(&t);
+    struct card card = baseline_for(&t)->card_of(&t);
     number("", t.n);
     text(words[card.monitorability]);
     for (int i = 0; i < 4; i++)
@@ -200,7 +205,7 @@ static void print_finding(int set, int reading, int room, const uint8_t *body, i
     int place, no = judge_question(body, len, set, reading, &place, &t);
     memset(area, 255, sizeof area);
     if (no == 0)
-        finding = examine(&t, set, reading, area, room, &w);
+        finding = baseline_for(&t)->examine(&t, set, reading, area, room, &w);
     if (finding == NO_ROOM)
         no = 13;
     if (no)
@@ -322,7 +327,7 @@ static void fault(const uint8_t *body, int len, int set, int reading, int room)
     if (no)
         refusal(no, place);
     else
-        print_witness(examine(&t, set, reading, area, room < WITNESS ? room : WITNESS, &w), "immune", "vulnerable distance ", &w, area);
+        print_witness(baseline_for(&t)->examine(&t, set, reading, area, room < WITNESS ? room : WITNESS, &w), "immune", "vulnerable distance ", &w, area);
     end_line();
 }
 
@@ -337,7 +342,7 @@ static void trust(const uint8_t *body, int len, int set, int reading, int verdic
     if (no)
         refusal(no, place);
     else
-        print_witness(believe(&t, set, reading, verdict, area, room < WITNESS ? room : WITNESS, &w), "yes", "no distance ", &w, area);
+        print_witness(baseline_for(&t)->believe(&t, set, reading, verdict, area, room < WITNESS ? room : WITNESS, &w), "yes", "no distance ", &w, area);
     end_line();
 }
 
@@ -353,7 +358,7 @@ int main(int argc, char **argv)
         trace(input, len, atoi(argv[2]), argv[3]);
     else if (argc == 5 && strcmp(argv[1], "fault") == 0)
         fault(input, len, atoi(argv[2]), atoi(argv[3]), atoi(argv[4]));
-    else if (argc == 6 && strcmp(argv[1], "trust") == 0 && believe)
+    else if (argc == 6 && strcmp(argv[1], "trust") == 0 && one_word.believe)
         trust(input, len, atoi(argv[2]), atoi(argv[3]), atoi(argv[4]), atoi(argv[5]));
     else
         return 2;

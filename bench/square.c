@@ -2,13 +2,12 @@
 // found from those at r through the predecessors of their two states, and sets of states are words. From the square come
 // the cheapest fault step at each state, the totals, and the witness. The question of trust is the same search with
 // another test of what tells two states apart.
-#include "bench.h"
-#include <stddef.h>
+#include "states.h"
 #include <string.h>
 
 enum { NEVER = 65535 };
 
-typedef uint16_t square[STATES][STATES];
+typedef uint16_t square[MOST][MOST];
 
 struct choice {
     int cost, kind, first, second;
@@ -17,16 +16,16 @@ struct choice {
 // ---- classes
 
 // The set, and the states from which it can be reached: widened state by state until nothing is added.
-static uint64_t reaching(const struct table *t, uint64_t set)
+static states reaching(const struct table *t, states set)
 {
     for (;;) {
-        uint64_t before = set;
+        states before = set;
         for (int q = 0; q < t->n; q++) {
-            if (set >> q & 1)
+            if (has(set, q))
                 continue;
             for (int a = 0; a < t->k; a++)
-                if (set >> t->next[q * t->k + a] & 1) {
-                    set |= 1ull << q;
+                if (has(set, t->next[q * t->k + a])) {
+                    set |= only(q);
                     break;
                 }
         }
@@ -35,41 +34,41 @@ static uint64_t reaching(const struct table *t, uint64_t set)
     }
 }
 
-static uint64_t reachable(const struct table *t)
+static states reachable(const struct table *t)
 {
-    uint64_t seen = 1ull << t->start, expanded = 0;
+    states seen = only(t->start), expanded = 0;
     while (seen != expanded) {
-        int q = __builtin_ctzll(seen & ~expanded);
-        expanded |= 1ull << q;
+        int q = lowest(seen & ~expanded);
+        expanded |= only(q);
         for (int a = 0; a < t->k; a++)
-            seen |= 1ull << t->next[q * t->k + a];
+            seen |= only(t->next[q * t->k + a]);
     }
     return seen;
 }
 
-static uint64_t marked(const struct table *t, int mark)
+static states marked(const struct table *t, int mark)
 {
-    uint64_t set = 0;
+    states set = 0;
     for (int q = 0; q < t->n; q++)
         if (t->marks[q] == mark)
-            set |= 1ull << q;
+            set |= only(q);
     return set;
 }
 
 // The class of state q, by the states from which true and false can be reached.
-static int class_of(const struct table *t, uint64_t truth, uint64_t falsity, int q)
+static int class_of(const struct table *t, states truth, states falsity, int q)
 {
     if (t->marks[q])
         return t->marks[q] - 1;
-    if (truth >> q & 1)
-        return falsity >> q & 1 ? 4 : 2;
-    return falsity >> q & 1 ? 3 : 5;
+    if (has(truth, q))
+        return has(falsity, q) ? 4 : 2;
+    return has(falsity, q) ? 3 : 5;
 }
 
 static int monitorability(const struct table *t)
 {
     static const uint8_t weak[] = {0, 1, 0, 1, 2, 3};
-    uint64_t truth = reaching(t, marked(t, 1)), falsity = reaching(t, marked(t, 2));
+    states truth = reaching(t, marked(t, 1)), falsity = reaching(t, marked(t, 2));
     if (reachable(t) & ~truth & ~falsity)
         return 3;
     return weak[class_of(t, truth, falsity, t->start)];
@@ -77,7 +76,7 @@ static int monitorability(const struct table *t)
 
 static void write_classes(const struct table *t, uint8_t *outputs)
 {
-    uint64_t truth = reaching(t, marked(t, 1)), falsity = reaching(t, marked(t, 2));
+    states truth = reaching(t, marked(t, 1)), falsity = reaching(t, marked(t, 2));
     for (int q = 0; q < t->n; q++)
         outputs[q] = class_of(t, truth, falsity, q);
 }
@@ -95,9 +94,10 @@ static inline bool passes(int test, int sent, int received)
 
 // What the square is made with. Of each array only what n states and k symbols need is used.
 struct pairs {
-    uint64_t predecessors[SYMBOLS][STATES];  // the states from which a symbol leads to a state
-    uint64_t alike[STATES];                  // the states that are not told apart from a state so far, without itself
-    uint64_t fresh[2][STATES];               // those that the last round told apart from it, and this one
+    states predecessors[SYMBOLS][MOST];  // the states from which a symbol leads to a state
+    states alike[MOST];                  // the states that are not told apart from a state so far, without itself
+    states open;                         // the states that others are still alike to
+    states fresh[2][MOST];               // those that the last round told apart from it, and this one
 };
 
 static void find_predecessors(const struct table *t, struct pairs *pairs)
@@ -108,65 +108,96 @@ static void find_predecessors(const struct table *t, struct pairs *pairs)
         memset(pairs->predecessors[a], 0, n * sizeof pairs->predecessors[a][0]);
     for (size_t p = 0; p < n; p++, row += k)
         for (size_t a = 0; a < k; a++)
-            pairs->predecessors[a][row[a]] |= 1ull << p;
+            pairs->predecessors[a][row[a]] |= only(p);
+}
+
+// Enters 0 in row p for the states of word w that are told apart from p at once. Returns them.
+static inline uint64_t begin_word(const struct table *t, const uint8_t *outputs, int test, uint16_t *row, int p, int w)
+{
+    int sent = outputs[p], count = w < WORDS - 1 ? 64 : t->n - 64 * w;
+    uint64_t apart = 0;
+    for (int q = 0; q < count; q++)
+        if (passes(test, sent, outputs[64 * w + q])) {
+            row[64 * w + q] = 0;
+            apart |= 1ull << q;
+        }
+    return apart;
 }
 
 // The pairs at distance 0. Returns the rows that have one.
-static uint64_t begin(const struct table *t, const uint8_t *outputs, int test, square s, struct pairs *pairs)
+static states begin(const struct table *t, const uint8_t *outputs, int test, square s, struct pairs *pairs)
 {
-    uint64_t rows = 0, all = ~0ull >> (STATES - t->n);
+    states rows = 0, all = ~(states)0 >> (MOST - t->n);
+    pairs->open = 0;
     memset(s, 255, t->n * sizeof s[0]);
     memset(pairs->fresh[1], 0, t->n * sizeof pairs->fresh[1][0]);
     for (int p = 0; p < t->n; p++) {
-        uint64_t apart = 0;
-        for (int q = 0; q < t->n; q++)
-            if (passes(test, outputs[p], outputs[q])) {
-                s[p][q] = 0;
-                apart |= 1ull << q;
-            }
-        pairs->alike[p] = all & ~apart & ~(1ull << p);
+        states apart = 0;
+        EACH_WORD(w)
+            apart |= (states)begin_word(t, outputs, test, s[p], p, w) << 64 * w;
+        pairs->alike[p] = all & ~apart & ~only(p);
+        if (pairs->alike[p])
+            pairs->open |= only(p);
         pairs->fresh[0][p] = apart;
         if (apart)
-            rows |= 1ull << p;
+            rows |= only(p);
     }
     return rows;
 }
 
-// The states from which a symbol leads into a set that is not empty; these are the symbol's predecessors.
-static inline uint64_t leading_into(const uint64_t *predecessors, uint64_t set)
+// The states from which a symbol leads into a set that is not empty; these are the symbol's predecessors. So of two words
+// one can be 0, a single one cannot.
+static inline states leading_into(const states *predecessors, states set)
 {
-    uint64_t into = 0;
-    do
-        into |= predecessors[__builtin_ctzll(set)];
-    while (set &= set - 1);
+    states into = 0;
+    EACH_WORD(w) {
+        uint64_t left = word(set, w);
+        if (WORDS > 1 && left == 0)
+            continue;
+        do
+            into |= predecessors[lowest_in(left, w)];
+        while (left &= left - 1);
+    }
     return into;
+}
+
+// Enters r for each state of the set in this row of the square.
+static inline void enter(uint16_t *row, states set, int r)
+{
+    EACH_WORD(w)
+        for (uint64_t left = word(set, w); left; left &= left - 1)
+            row[lowest_in(left, w)] = r;
 }
 
 // The round after r: from the fresh pairs, which are at r, to those at r + 1. The rows are those that have a fresh pair.
 // Returns the rows of the next round.
-static uint64_t spread(const struct table *t, square s, struct pairs *pairs, uint64_t rows, int r)
+static states spread(const struct table *t, square s, struct pairs *pairs, states rows, int r)
 {
     size_t k = t->k;
-    uint64_t found = 0, *fresh = pairs->fresh[r & 1], *next = pairs->fresh[~r & 1];
+    states found = 0, *fresh = pairs->fresh[r & 1], *next = pairs->fresh[~r & 1];
     for (; rows; rows &= rows - 1) {
-        int x = __builtin_ctzll(rows);
-        uint64_t front = fresh[x];
+        int x = lowest(rows);
+        states front = fresh[x];
         fresh[x] = 0;
-        for (size_t a = 0; a < k; a++)
-            for (uint64_t left = pairs->predecessors[a][x]; left; left &= left - 1) {
-                int p = __builtin_ctzll(left);
-                uint64_t alike = pairs->alike[p];
-                if (alike == 0)
-                    continue;
-                uint64_t new = alike & leading_into(pairs->predecessors[a], front);
-                if (new == 0)
-                    continue;
-                pairs->alike[p] = alike & ~new;
-                next[p] |= new;
-                found |= 1ull << p;
-                for (; new; new &= new - 1)
-                    s[p][__builtin_ctzll(new)] = r + 1;
-            }
+        for (size_t a = 0; a < k; a++) {
+            states open = pairs->predecessors[a][x] & pairs->open;
+            if (open == 0)
+                continue;
+            states into = leading_into(pairs->predecessors[a], front);
+            EACH_WORD(w)
+                for (uint64_t left = word(open, w); left; left &= left - 1) {
+                    int p = lowest_in(left, w);
+                    states alike = pairs->alike[p], new = alike & into;
+                    if (new == 0)
+                        continue;
+                    pairs->alike[p] = alike & ~new;
+                    if (alike == new)
+                        pairs->open &= ~only(p);
+                    next[p] |= new;
+                    found |= only(p);
+                    enter(s[p], new, r + 1);
+                }
+        }
     }
     return found;
 }
@@ -176,7 +207,7 @@ static void distances(const struct table *t, const uint8_t *outputs, int test, s
 {
     struct pairs pairs;
     find_predecessors(t, &pairs);
-    uint64_t rows = begin(t, outputs, test, s, &pairs);
+    states rows = begin(t, outputs, test, s, &pairs);
     for (int r = 0; rows; r++)
         rows = spread(t, s, &pairs, rows, r);
 }
@@ -265,7 +296,7 @@ static struct witness witness_of(const struct table *t, const uint8_t *outputs, 
 // The finding for one fault set, from the outputs and the square that all sets share.
 static enum finding examine_set(const struct table *t, const uint8_t *outputs, square s, int set, uint8_t *area, int room, struct witness *w)
 {
-    int costs[STATES], totals[STATES];
+    int costs[MOST], totals[MOST];
     for (int p = 0; p < t->n; p++)
         costs[p] = totals[p] = cheapest(t, s, set, p).cost;
     relax(t, totals);
@@ -280,7 +311,7 @@ static enum finding examine_set(const struct table *t, const uint8_t *outputs, s
 // The first witness by this test.
 static enum finding first_witness(const struct table *t, int set, int reading, int test, uint8_t *area, int room, struct witness *w)
 {
-    uint8_t outputs[STATES];
+    uint8_t outputs[MOST];
     square s;
     if (reading == 3)
         memcpy(outputs, t->marks, t->n);
@@ -290,17 +321,17 @@ static enum finding first_witness(const struct table *t, int set, int reading, i
     return examine_set(t, outputs, s, set, area, room, w);
 }
 
-enum finding examine(const struct table *t, int set, int reading, uint8_t *area, int room, struct witness *w)
+static enum finding examine(const struct table *t, int set, int reading, uint8_t *area, int room, struct witness *w)
 {
     return first_witness(t, set, reading, DIFFER, area, room, w);
 }
 
-enum finding believe(const struct table *t, int set, int reading, int verdict, uint8_t *area, int room, struct witness *w)
+static enum finding believe(const struct table *t, int set, int reading, int verdict, uint8_t *area, int room, struct witness *w)
 {
     return first_witness(t, set, reading, verdict, area, room, w);
 }
 
-struct card card_of(const struct table *t)
+static struct card card_of(const struct table *t)
 {
     struct card card = {.monitorability = monitorability(t)};
     uint8_t area[WITNESS];
@@ -312,3 +343,5 @@ struct card card_of(const struct table *t)
             card.distance[i] = w.distance;
     return card;
 }
+
+const struct baseline BASELINE = {examine, believe, card_of};

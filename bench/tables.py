@@ -11,7 +11,7 @@ LIMIT = 65536
 TRACE = 250000
 QUESTIONS = list(itertools.product((3, 6), (1, 2, 4, 8, 15)))
 # What `ask` is asked of the ring tables, under repeat; the reading is put in. With an area of 0 it is refused once the distance is known.
-RING_QUESTIONS = {"trust": "trust 4 {} 1 5000", "trust, area 0": "trust 4 {} 1 0", "fault question": "fault 4 {} 5000"}
+RING_QUESTIONS = {"trust": "trust 4 {} 1 16514", "trust, area 0": "trust 4 {} 1 0", "fault question": "fault 4 {} 16514"}
 
 
 def body(k, start, marks, rows):
@@ -50,20 +50,22 @@ def small_table(r):
 
 
 def sets():
-    """The three sets of tables, each with its name."""
-    r = random.Random(1)
+    """The sets of tables, each with its name. Those of 128 states, which came later, have a generator of their own, so that the others stay what they were."""
+    r, large = random.Random(1), random.Random(4)
     return {
         "60 random, n = 64, k = 16": [random_table(r, 64, 16) for _ in range(60)],
         "60 chains, n = 64, k = 2 to 16": [chain_table(r, 64, r.choice((2, 3, 4, 8, 16))) for _ in range(60)],
         "400 small, n = 3 to 8, k = 2 to 4": [small_table(r) for _ in range(400)],
+        "20 random, n = 128, k = 16": [random_table(large, 128, 16) for _ in range(20)],
+        "20 chains, n = 128, k = 2 to 16": [chain_table(large, 128, large.choice((2, 3, 4, 8, 16))) for _ in range(20)],
     }
 
 
 def growth():
-    """Ten tables of each kind and size: (kind, n, k, tables)."""
-    r = random.Random(2)
-    for (kind, make), n, k in itertools.product((("random", random_table), ("chain", chain_table)), (8, 16, 32, 64), (2, 4, 8, 16)):
-        yield kind, n, k, [make(r, n, k) for _ in range(10)]
+    """Ten tables of each kind and size: (kind, n, k, tables). Those of 128 states have a generator of their own, as in sets()."""
+    r, large = random.Random(2), random.Random(5)
+    for (kind, make), n, k in itertools.product((("random", random_table), ("chain", chain_table)), (8, 16, 32, 64, 128), (2, 4, 8, 16)):
+        yield kind, n, k, [make(large if n == 128 else r, n, k) for _ in range(10)]
 
 
 def traces():
@@ -79,8 +81,8 @@ def traces():
 
 
 def ring_tables():
-    """The tables of tests/rings.py of 25 and of 61 states: (name, table)."""
-    for one, two in ((10, 12), (28, 30)):
+    """The tables of tests/rings.py of 25, of 61 and of 125 states: (name, table)."""
+    for one, two in ((10, 12), (28, 30), (60, 62)):
         start, marks, rows = rings.rings(one, two)
         yield f"rings of {one} and {two}, n = {len(marks)}, k = 4", body(4, start, marks, rows)
 
@@ -115,8 +117,9 @@ def frame(call, numbers, b):
 
 
 def questions(bodies):
-    """Ten fault questions to each table as inputs of `probe`: both readings, each fault alone and all together. Every witness fits an area of 2 * n."""
-    frames = [frame(4, (faults, reading, 2 * b[0]), b) for b in bodies for reading, faults in QUESTIONS]
+    """Ten fault questions to each table as inputs of `probe`: both readings, each fault alone and all together. Every witness here fits an
+    area of 2 * n and, of 128 states, one of 249: a byte says how large it is, and refused_questions() adds six."""
+    frames = [frame(4, (faults, reading, min(2 * b[0], 249)), b) for b in bodies for reading, faults in QUESTIONS]
     return [b"".join(batch) for batch in batches(frames)]
 
 

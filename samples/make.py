@@ -138,7 +138,7 @@ RULES[57] = table("quiet alarm", {
     "lost": (NOT_YET, "lost"),
 })
 
-# The largest table, 64 states and 16 messages. The first 31 messages are not looked at; then the sixteen slots must come in order, twice, and a
+# The largest table here, 64 states and 16 messages. The first 31 messages are not looked at; then the sixteen slots must come in order, twice, and a
 # wrong one starts them again. The longest traces here: corruption and swap do harm only near the slots, loss and repeat from the first message on.
 SLOTS = 16
 RULES[64] = table(" ".join(f"slot-{m}" for m in range(SLOTS)), {

@@ -7,7 +7,8 @@ state settles by its series of messages. For a fault question it goes up to sent
 that would show as a difference, since the program would not say immune. For a verdict n * n is enough: a shortest
 witness has at most n - 1 messages before the fault, two that the fault covers, and n * n - n - 1 behind it, since no
 pair of states comes twice there and none is a state beside itself. Where that would be too many series, the search
-ends earlier.
+ends earlier. Since states that are not reached count for nothing, some questions are asked again of the same table with
+its states spread among up to 128.
 """
 import functools
 import itertools
@@ -126,6 +127,28 @@ def trust_questions(b):
                 yield from (ask_trust(b, faults, d, verdict, room, w, marks_by_series) for room in areas(w))
 
 
+def spread(r, b):
+    """The table with its states at any places among 65 to 128. The others are not reached: they are not yet and lead
+    anywhere, or they are true or false and stay."""
+    n, k, start = b[:3]
+    size = r.randint(65, 128)
+    places = r.sample(range(size), n)
+    marks = [r.choice((0, 0, 1, 2)) for _ in range(size)]
+    rows = [[q if marks[q] else r.randrange(size) for _ in range(k)] for q in range(size)]
+    for q, place in enumerate(places):
+        marks[place], rows[place] = b[3 + q], [places[run(b, q, [a])] for a in range(k)]
+    return [size, k, places[start], *marks, *itertools.chain(*rows)]
+
+
+def spread_questions(r, b, asked):
+    """Some of the questions on a table, of the table spread: it is answered alike, but for the states on its card."""
+    larger = spread(r, b)
+    assert judge(larger) is None
+    for frame, answer in r.sample(asked, 20):
+        call = frame[:-len(b)]
+        yield call + larger, f"{larger[0]} {answer.partition(' ')[2]}" if call[0] == 5 else answer
+
+
 # ---- the tables
 
 # Tables found by hill climbing: distances up to 6, up to 5 messages before the fault, and in the last six a distance by classes that is
@@ -179,7 +202,10 @@ def main():
     settling = [b for b in SETTLING if 2 < b[0] < 7] + [settling_table(r, r.randint(3, 5), 2) for _ in range(9)]
     tables += [list(b) for b in settling]
     assert all(judge(b) is None and marks_by_series(b) == settled(b) for b in tables)
-    asked = [question for b in tables for question in (*fault_questions(b), *trust_questions(b))]
+    r, asked = random.Random(6), []
+    for b in tables:
+        of_table = [*fault_questions(b), *trust_questions(b)]
+        asked += of_table + [*spread_questions(r, b, of_table)]
     total = compare(asked)
     distance, farther = (max(int(answer.split()[2]) for _, answer in asked if answer.startswith(found + " "))
                          for _, found in (FAULT, TRUST))

@@ -11,7 +11,7 @@ from reference import (CORRUPTION, LOSS, REPEAT, SWAP, Refused, classes, fault, 
 from rings import rings
 from tables import (A, B, C, D, E, G, H, HARMED_EARLIER, LOWER_TRACE_HARMED, LOWER_TRACE_SWAPPED, SETTLING,
                     THREE_IN_A_ROW, UGLY_FURTHER_ON, UGLY_UNREACHABLE, UNREACHABLE_HARM, UNREACHED_SETTLES, collection,
-                    random_table, settling_table, table)
+                    far_table, random_table, settling_table, table)
 
 
 def answer(call, *arguments):
@@ -22,6 +22,7 @@ def answer(call, *arguments):
         return no.number, no.place
 
 
+ROOM = 2000         # an area that holds every answer here
 checks = 0
 
 
@@ -38,16 +39,16 @@ def figures(w):
 
 
 def short(body, faults, reading=3):
-    return figures(fault(body, faults, reading, 1000))
+    return figures(fault(body, faults, reading, ROOM))
 
 
 def misread(body, faults, reading, verdict):
-    return figures(trust(body, faults, reading, verdict, 1000))
+    return figures(trust(body, faults, reading, verdict, ROOM))
 
 
 def starred_facts():
     for name, body, word in (("A", A, "pos"), ("B", B, "neg"), ("C", C, "both"), ("D", D, "none")):
-        check(reference.MONITORABILITY[classes(body, 64).monitorability], word, name)
+        check(reference.MONITORABILITY[classes(body, 128).monitorability], word, name)
     for reading in (3, 6):
         check(short(D, 15, reading), None, "D, all faults")
         for faults in (REPEAT, SWAP, REPEAT | SWAP):
@@ -64,7 +65,8 @@ def starred_facts():
 
 def edges():
     check(answer(judge, b"\2\2"), (1, 2), "2 bytes")
-    sizes = ((64, 1, None), (65, 1, (2, 0)), (1, 16, None), (1, 17, (3, 1)), (1, 0, (3, 1)), (0, 0, (2, 0)))
+    sizes = [(n, 1, None) for n in (1, 63, 64, 65, 127, 128)] + [(n, 1, (2, 0)) for n in (129, 130, 255)]
+    sizes += [(128, 16, None), (1, 16, None), (1, 17, (3, 1)), (1, 0, (3, 1)), (0, 0, (2, 0)), (129, 0, (2, 0))]
     for n, k, wanted in sizes:
         check(answer(judge, bytes([n, k, 0] + [0] * (n + n * k))), wanted, f"n = {n}, k = {k}")
     check(fault(E, SWAP, 3, 3).distance, 3, "E, swap, area 3")
@@ -154,7 +156,7 @@ def trusted():
         check(trust(D, 15, reading, verdict, 0), None, "D, all faults: yes needs no room")
     check(trust(A, LOSS, 3, 1, 0), None, "A, loss, verdict 1: yes needs no room")
     check(answer(trust, E, LOSS, 3, 1, 2), (13, 0), "E, loss, verdict 1, area 2")
-    for p, q, states, distance in ((10, 12, 25, 61), (28, 30, 61, 421)):
+    for p, q, states, distance in ((10, 12, 25, 61), (28, 30, 61, 421), (44, 46, 93, 1013), (58, 66, 127, 1915)):
         body = table(*rings(p, q))
         check((body[0], misread(body, REPEAT, 3, 1)[0]), (states, distance), f"rings of {p} and {q}")
         check(answer(trust, body, REPEAT, 3, 1, distance - 1), (13, 0), f"rings of {p} and {q}, one byte short")
@@ -270,9 +272,9 @@ def every_series(b, reading, test):
     return brute.first_series(b, reading, b[0] ** 2, test)
 
 
-def check_sets(b, first, found, about):
-    """The first witness of every set, by the first of each kind."""
-    for faults in range(16):
+def check_sets(b, first, found, about, sets=range(16)):
+    """The first witness of every set, or of some, by the first of each kind."""
+    for faults in sets:
         check(series_of(found(faults)), model.first_of(first, faults), (bytes(b).hex(), faults, about))
 
 
@@ -287,7 +289,7 @@ def searches():
     for (b, search), reading in itertools.product(asked, (3, 6)):
         for verdict in range(reading):
             first = search(b, reading, model.misread(verdict))
-            check_sets(b, first, lambda faults: trust(bytes(b), faults, reading, verdict, 1000), (reading, verdict))
+            check_sets(b, first, lambda faults: trust(bytes(b), faults, reading, verdict, ROOM), (reading, verdict))
 
 
 def check_states(body, rng):
@@ -312,15 +314,33 @@ def settled_tables():
     """Tables of which states settle; of small ones also the marks by every series of messages, and the witnesses."""
     rng = random.Random("settled tables")
     small = [body for body in SETTLING if body[0] < 10] + [settling_table(rng, rng.randint(3, 7), 2) for _ in range(20)]
-    large = [body for body in SETTLING if body[0] > 10] + [settling_table(rng, 64, k) for k in (1, 2, 16)]
+    large = [body for body in SETTLING if body[0] > 10]
+    large += [settling_table(rng, n, k) for n in (64, 65, 128) for k in (1, 2, 16)]
     for body in small + large:
         check_states(body, rng)
     for body in small:
         b, first = list(body), {reading: model.first_witnesses(list(body), reading, model.differ) for reading in (3, 6)}
         check(tuple(reference.read_table(body).marks), brute.marks_by_series(b), (body.hex(), "marks by series"))
         for reading in (3, 6):
-            check_sets(b, first[reading], lambda faults: fault(body, faults, reading, 1000), reading)
+            check_sets(b, first[reading], lambda faults: fault(body, faults, reading, ROOM), reading)
         check(reference.listing_line(5, body), f"5 {model.card(b, first[3])}\n", (body.hex(), "listing"))
+
+
+
+def wide_tables():
+    """Tables of as many states as a word has bits, of one less, of one more, and of the most: what is said of their
+    states, and the first witnesses of some sets and against some verdicts, by model.py."""
+    rng = random.Random("wide tables")
+    for n in (63, 64, 65, 127, 128):
+        makers = (far_table, far_table, random_table, random_table, settling_table)
+        for body in [make(rng, n, rng.randint(3, 4)) for make in makers]:
+            check_states(body, rng)
+            b, reading = list(body), rng.choice((3, 6))
+            verdict, sets = rng.randrange(reading), (LOSS, CORRUPTION, REPEAT, SWAP, rng.randint(1, 15))
+            searched = [(model.differ, lambda faults: fault(body, faults, reading, ROOM)),
+                        (model.misread(verdict), lambda faults: trust(body, faults, reading, verdict, ROOM))]
+            for test, found in searched:
+                check_sets(b, model.first_witnesses(b, reading, test), found, (reading, verdict), sets)
 
 
 if __name__ == "__main__":
@@ -335,4 +355,5 @@ if __name__ == "__main__":
     enumeration()
     searches()
     settled_tables()
+    wide_tables()
     print(f"check_reference: {checks:,} checks, no difference")

@@ -10,7 +10,10 @@ from model import (FAULT, KINDS, READINGS, REPEAT, SAMPLES, ask_trust, card, com
                    fault_refusal, finding, first_of, first_witnesses, judge, listed, misread, monitorability, reach,
                    reading, refusal, run, settled, small_tables, state_class, successors)
 from rings import rings
-from tables import SETTLING, settling_table, table
+from tables import SETTLING, far_table, settling_table, table
+
+# The longest area that the program lends to a witness against a verdict.
+LENT = 1024
 
 # ---- the model's answers
 
@@ -110,12 +113,12 @@ def ask_write(rules, lengths, bodies, room):
     return [6, len(rules), len(lengths), room, *numbers, *bodies], write(rules, lengths, bodies, room)
 
 
-def random_table(r, states=64, messages=16):
-    n, k = r.randint(1, states), r.randint(1, messages)
+def random_table(r, states=128, messages=16, fewest=1):
+    n, k = r.randint(fewest, states), r.randint(1, messages)
     chance = r.choice((0.05, 0.3))
     marks = [r.choice((1, 2)) if r.random() < chance else 0 for _ in range(n)]
     alike = [[q for q in range(n) if marks[q] == marks[p]] if marks[p] else range(n) for p in range(n)]
-    near = r.choice((1, 2, 64))
+    near = r.choice((1, 2, 128))
     rows = [[r.choice(alike[q]) if marks[q] else min(n - 1, max(0, q + r.randint(-near, near))) for _ in range(k)] for q in range(n)]
     return [n, k, r.randrange(n), *marks, *itertools.chain(*rows)]
 
@@ -135,7 +138,7 @@ def small_questions():
 
 def damaged_questions():
     for b in SAMPLES:
-        for i, x in itertools.product(range(len(b)), (0, 1, 2, 3, 16, 17, 64, 65, 255)):
+        for i, x in itertools.product(range(len(b)), (0, 1, 2, 3, 16, 17, 64, 65, 128, 129, 255)):
             damaged = b[:i] + [x] + b[i + 1 :]
             yield ask_judge(damaged)
             yield ask_classes(damaged, 8)
@@ -218,7 +221,7 @@ def written_questions():
                 lengths[i] = max(0, lengths[i] + r.choice((-1, 1)))
             elif wrong == "body" and i < len(bodies) and bodies[i]:
                 place = r.randrange(len(bodies[i]))
-                bodies[i] = [*bodies[i][:place], r.choice((0, 1, 3, 65)), *bodies[i][place + 1:]]
+                bodies[i] = [*bodies[i][:place], r.choice((0, 1, 3, 129)), *bodies[i][place + 1:]]
             elif wrong == "cut" and i < min(len(bodies), len(lengths)):
                 bodies[i] = bodies[i][:r.randrange(len(bodies[i]) + 1)]
                 lengths[i] = len(bodies[i])
@@ -231,16 +234,18 @@ def written_questions():
     assert answers >= {"written", "27", "23", "28", "13", *"12345678"}, answers
 
 
-def undecided_table(r, states, messages):
+def undecided_table(r, states, messages, fewest=1):
     """A random table that has no verdict at its start and can come to one."""
-    tables = (random_table(r, states, messages) for _ in itertools.count())
+    tables = (random_table(r, states, messages, fewest) for _ in itertools.count())
     return next(b for b in tables if not settled(b)[b[2]] and any(settled(b)[q] for q in reach(b, b[2])))
 
 
 def ask_trusted(b, faults, d, verdict, first):
-    """A verdict, by the first witness of each kind; areas that just hold that of the set, just do not, and none."""
+    """A verdict, by the first witness of each kind; areas that just hold that of the set, just do not, and none: but no
+    longer one than the program lends."""
     w = first_of(first, faults)
-    yield from (ask_trust(b, faults, d, verdict, room, w) for room in ({w[0], w[0] - 1, 0} if w else (0, 3)))
+    rooms = {min(room, LENT) for room in ({w[0], w[0] - 1, 0} if w else (0, 3))}
+    yield from (ask_trust(b, faults, d, verdict, room, w) for room in rooms)
 
 
 def trust_questions():
@@ -252,7 +257,7 @@ def trust_questions():
             first = first_witnesses(b, d, misread(verdict))
             for faults in range(16) if b[0] < 10 else [r.randrange(16)]:
                 yield from ask_trusted(b, faults, d, verdict, first)
-    for one, two in ((10, 12), (28, 30)):
+    for one, two in ((10, 12), (28, 30), (44, 46), (58, 66)):
         b = list(table(*rings(one, two)))
         yield from ask_trusted(b, REPEAT, 3, 1, first_witnesses(b, 3, misread(1)))
 
@@ -262,6 +267,35 @@ def ask_found(b, faults, d, first):
     w = first_of(first, faults)
     rooms = {w[0], w[0] - 1} if w else (0, 3)
     yield from (([4, faults, d, room] + b, finding(b, d, w, room, FAULT)) for room in rooms)
+
+
+def border_tables(r):
+    """Tables of about as many states as a word has bits, and of about the most."""
+    for n in (63, 64, 65, 127, 128):
+        yield from (undecided_table(r, n, 3, n), settling_table(r, n, 2), far_table(r, n, 3))
+    yield undecided_table(r, 128, 16, 128)
+    yield far_table(r, 128, 16)
+
+
+def border_questions():
+    """Every call but the writer's on such tables."""
+    r, distances = random.Random(25), {4: {0}, 7: {0}}
+    for b in map(list, border_tables(r)):
+        n, k = b[:2]
+        yield ask_judge(b)
+        yield from (ask_judge([n + by, *b[1:]]) for by in (-1, 1))
+        yield from (ask_classes(b, room) for room in (n - 1, n, n + 1))
+        for d in READINGS:
+            yield from (ask_step(b, d, q, r.randrange(k)) for q in sorted({0, 62, n - 1, n, *r.sample(range(n), 9)}))
+            yield from (ask_trace(b, d, [r.randrange(k) for _ in range(length)]) for length in (0, n // 2, n, 200))
+        verdict, first = r.randrange(3), first_witnesses(b, 3, differ)
+        against = first_witnesses(b, 6, misread(verdict))
+        yield [5, 0, 0, 0] + b, card(b, first)
+        for faults in (*KINDS, r.randint(1, 15)):
+            for frame, answer in (*ask_found(b, faults, 3, first), *ask_trusted(b, faults, 6, verdict, against)):
+                distances[frame[0]].add(int(answer.split()[2]) if " distance " in answer else 0)
+                yield frame, answer
+    assert max(distances[4]) > 128 and max(distances[7]) > 64, distances
 
 
 def settled_questions():
@@ -293,5 +327,6 @@ def settled_questions():
 
 
 total = compare(itertools.chain(small_questions(), damaged_questions(), refused_questions(), random_questions(),
-                                fallen_questions(), written_questions(), trust_questions(), settled_questions()))
+                                fallen_questions(), written_questions(), trust_questions(), border_questions(),
+                                settled_questions()))
 print(f"compare.py: {total} answers compared with the model, all equal")

@@ -11,7 +11,7 @@ ROOT = pathlib.Path(__file__).resolve().parent.parent
 WANTED = {
     "crates/faults/src/lib.rt": [">> rank", "& 1"],
     "crates/pack/src/main.rt": ["% 2", "/ 2"],
-    "crates/state_set/src/lib.rt": [">> q", "& 1"],
+    "crates/state_set/src/lib.rt": [">> q", "& 1", ">> q", "& 1"],
     "crates/writer/src/lib.rt": ["% 256", "/ 256"],
 }
 

@@ -20,7 +20,8 @@ from tables import E, collection, in_a_row, late_repeat, table
 PROGRAMS = sys.argv[1] if len(sys.argv) > 1 else os.path.join("target", "bin")
 with open(os.path.join("samples", "sample.collection"), "rb") as sample:
     SAMPLE = sample.read()
-LARGE = collection([(1, table(*late_repeat(64, 16))), (2, table(*in_a_row(64, 16)))] + [(i, E) for i in range(3, 513)])
+LONGEST = [(1, table(*late_repeat(128, 16))), (2, table(*in_a_row(128, 16)))]
+LARGE = collection(LONGEST + [(i, E) for i in range(3, 513)])
 
 # The bodies of a collection to be written, one behind the other, and with files of their own.
 WRITE = ["ask", "write", "100", "1", "2", "/", str(len(E)), str(len(E))]
@@ -34,9 +35,10 @@ CALLS = [(["listing"], SAMPLE), (["card"], SAMPLE), (["card", "20", "21"], SAMPL
          (["ask", "why", "8"], b""), (["listing", "--help"], b""), (["card", "--help"], b""), (["ask", "--help"], b""),
          (WRITE, E + E), (PACK, b""), (["pack", "--help"], b"")]
 
-# The greatest stack, in KiB, that a call may need: for `ask trace` and `ask write` the room for 262,144 bytes comes on top,
-# and `pack` has the bodies and the collection beside each other.
-STACK, WIDE_STACK = 256, 512
+# The greatest stack, in KiB, that a call may need: of `listing`; of `card` and most forms of `ask`, which hold the
+# longest witness as well; and of the rest. For `ask trace` and `ask write` the room for 262,144 bytes comes on top, and
+# `pack` has the bodies and the collection beside each other.
+STACK, WITNESS_STACK, WIDE_STACK = 256, 384, 512
 
 
 def run(words, data, limits=None, **streams):
@@ -157,7 +159,8 @@ def small_stack():
                      (["pack", *[word for i in range(513) for word in (str(i), PACK[2])]], b""),
                      (["ask", "classes", "9" * 9999], E), (["ask", "rule", "512", "trace", "3"] + ["1"] * 999, LARGE)]
     for words, data in calls:
-        kib = WIDE_STACK if words[0] == "pack" or {"trace", "write"} & set(words) else STACK
+        wide = words[0] == "pack" or {"trace", "write"} & set(words)
+        kib = WIDE_STACK if wide else STACK if words[0] == "listing" else WITNESS_STACK
 
         def limits():
             resource.setrlimit(resource.RLIMIT_STACK, (kib * 1024, kib * 1024))
@@ -197,4 +200,5 @@ unreadable_file()
 unreadable_body()
 terminal()
 small_stack()
-print(f"failures: no room, closed pipes, unreadable input and files, a terminal, and stacks of {STACK} and {WIDE_STACK} KiB are as said")
+print(f"failures: no room, closed pipes, unreadable input and files, a terminal, and stacks of {STACK}, "
+      f"{WITNESS_STACK} and {WIDE_STACK} KiB are as said")

@@ -195,7 +195,7 @@ def believe_lines(data):
         except Refused:
             continue
         for faults in (1, 2, 4, 8):
-            said = ["no" if reference.trust(body, faults, 3, mark, 5000) else "yes" for mark in (1, 2, 0)]
+            said = ["no" if reference.trust(body, faults, 3, mark, 20000) else "yes" for mark in (1, 2, 0)]
             lines.append(BELIEVE + "true {}, false {}, not yet {}\n".format(*said))
     return "".join(lines)
 

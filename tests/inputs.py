@@ -10,10 +10,10 @@ from rings import rings
 from tables import (A, B, C, D, E, NAMED, SETTLING, collection, damaged, far_table, in_a_row, late_repeat, packed,
                     random_table, settling, settling_table, table)
 
-ROOM = 1000         # an area that holds every answer here
+ROOM = 2000         # an area that holds every answer here
 WIDE = [2**8, 2**8 + 1, 2**16, 2**32, 2**32 + 1, 2**32 + 3, 2**63, 2**64 - 1, 2**64, 2**64 + 1, 2**64 + 3, 2**64 + 6,
         10**40]
-RINGS = [table(*rings(one, two)) for one, two in ((10, 12), (28, 30), (26, 34))]
+RINGS = [table(*rings(one, two)) for one, two in ((10, 12), (28, 30), (26, 34), (58, 66))]
 
 
 def ask(data, *words):
@@ -58,21 +58,23 @@ def small_listings(rng):
 
 
 def all_sizes(rng):
-    """Tables of all 1,024 sizes; most are vulnerable, as a large immune one takes long."""
-    for n in range(1, 65):
-        for k in range(1, 17):
+    """Tables of every number of states, up to 66 with every number of messages and above with one; most are vulnerable,
+    as a large immune one takes long."""
+    for n in range(1, 129):
+        for k in range(1, 17) if n < 67 else [rng.randint(1, 16)]:
             yield rng.choice([random_table] + [vulnerable_table] * 5)(rng, n, k)
 
 
 def listings_of_all_sizes(rng):
-    """Every size twice."""
+    """Such tables, twice."""
     for limit in (INPUT_LIMIT, 20000):
         yield from map(listing, packed(all_sizes(rng), limit))
 
 
 def far_listings(rng):
-    """Tables with distances up to 125."""
-    bodies = [far_table(rng, n, rng.randint(3, 5)) for n in range(4, 65) for _ in range(4)]
+    """Tables with distances up to 253."""
+    sizes = list(range(4, 67)) * 3 + list(range(67, 126, 4)) + [126, 127, 128] * 3
+    bodies = [far_table(rng, n, rng.randint(3, 5)) for n in sizes]
     yield from map(listing, packed(bodies))
 
 
@@ -86,9 +88,9 @@ def witnesses_of_small_tables(rng):
 
 
 def witnesses_of_all_sizes(rng):
-    """The first witness for some sets, at two fifths of all sizes."""
+    """The first witness for some sets, at a quarter of such sizes."""
     for body in all_sizes(rng):
-        if rng.random() < 0.4:
+        if rng.random() < 0.25:
             for _ in range(3):
                 yield ask(body, "fault", rng.randint(1, 15), rng.choice([3, 6]), ROOM)
 
@@ -96,12 +98,13 @@ def witnesses_of_all_sizes(rng):
 def areas_for_witnesses(rng):
     """Areas around the distance and around the number of states, and far witnesses."""
     bodies = [vulnerable_table(rng, rng.randint(1, 12), rng.randint(1, 4)) for _ in range(80)]
-    bodies += [far_table(rng, n, 3) for n in range(4, 65, 2)]
-    bodies += [table(*make(n, k)) for make in (in_a_row, late_repeat) for n, k in ((63, 3), (64, 3), (64, 16))]
+    bodies += [far_table(rng, n, 3) for n in (*range(4, 67, 3), 96, 126)]
+    bodies += [table(*make(n, k)) for make in (in_a_row, late_repeat)
+               for n, k in ((63, 3), (64, 16), (65, 3), (127, 3), (128, 16))]
     for body in bodies:
         for faults in (rng.choice([1, 2, 4, 8]), rng.choice([4, 8, 12]), rng.randint(0, 15)):
             reading = rng.choice([3, 6])
-            witness = reference.fault(body, faults, reading, 1000)
+            witness = reference.fault(body, faults, reading, ROOM)
             distance = witness.distance if witness else 0
             for area in {0, distance - 1, distance, distance + 1, body[0] - 1, body[0], rng.choice(WIDE)} - {-1}:
                 yield ask(body, "fault", faults, reading, area)
@@ -132,20 +135,20 @@ def trust_questions(rng):
 
 
 def trust_of_all_sizes(rng):
-    """Some sets and verdicts, at a quarter of all sizes."""
+    """Some sets and verdicts, at a fifth of such sizes."""
     for body in all_sizes(rng):
-        if rng.random() < 0.25:
+        if rng.random() < 0.2:
             for faults, reading in ((rng.randint(1, 15), 3), (rng.choice([1, 2, 4, 8]), 3), (rng.randint(1, 15), 6)):
                 yield ask(body, "trust", faults, reading, rng.randrange(reading), ROOM)
 
 
 def far_misreadings(rng):
-    """Witnesses of up to 443 messages: areas around their length and around the longest that is lent, and wide ones."""
+    """Witnesses of up to 1915 messages: areas around their length and around the most that is lent, and wide ones."""
     for body in RINGS + [table(*rings(one, two)) for one in (2, 4, 6) for two in (2, 4, 10, 16)]:
         others = rng.randint(0, 15), 6, rng.randrange(6)
         for faults, reading, verdict in ((4, 3, 1), (4, 6, 0), (4, 3, 2), (4, 3, 0), (15, 3, 1), others):
             for near in trust_areas(body, faults, reading, verdict):
-                for area in {0, near, near + 1, rng.choice([255, 256, 4161, 4162, 4163, 5000, *WIDE])}:
+                for area in {0, near, near + 1, rng.choice([255, 256, 4162, 16513, 16514, 16515, 20000, *WIDE])}:
                     yield ask(body, "trust", faults, reading, verdict, area)
 
 
@@ -156,14 +159,14 @@ def some_settling(rng, count, states=8):
 
 def settled_listings(rng):
     """Tables of which states settle, of many sizes."""
-    sizes = [(n, rng.randint(1, 16)) for n in range(1, 65)]
+    sizes = [(n, rng.randint(1, 16)) for n in (*range(1, 67), *range(70, 127, 8), 127, 128)]
     bodies = SETTLING + some_settling(rng, 900) + [settling_table(rng, n, k) for n, k in sizes]
     yield from map(listing, packed(bodies))
 
 
 def settled_answers(rng):
     """Every call on tables of which states settle, with fewer sets for large ones; traces up to one longer than n."""
-    for body in SETTLING + some_settling(rng, 20) + some_settling(rng, 10, 64):
+    for body in SETTLING + some_settling(rng, 20) + some_settling(rng, 10, 128):
         n, k = body[:2]
         yield ask(body, "judge")
         yield ask(body, "classes", n)
@@ -179,7 +182,7 @@ def settled_answers(rng):
 
 def settled_damage(rng):
     """A state marked true or false that steps to one that settles so: refused all the same, alone and behind others."""
-    for n, k in ((2, 1), (3, 2), (7, 3), (64, 16)):
+    for n, k in ((2, 1), (3, 2), (7, 3), (64, 16), (65, 1), (128, 16)):
         for mark, rising in ((1, False), (1, True), (2, False), (2, True)):
             start, marks, rows = settling(n, k, mark, rising)
             rows[marks.index(mark)][rng.randrange(k)] = start
@@ -190,7 +193,7 @@ def settled_damage(rng):
 
 def classes_of_tables(rng):
     """All sizes of n; areas around n and very wide ones."""
-    for n in list(range(1, 65)) * 5:
+    for n in list(range(1, 129)) * 3:
         body = random_table(rng, n, rng.randint(1, 16))
         for area in (n - 1, n, n + 1, rng.choice([0, 1, 255, 256] + WIDE)):
             yield ask(body, "classes", area)
@@ -204,7 +207,7 @@ def steps_and_traces(rng):
             for message in range(k + 1):
                 yield from (ask(body, "step", reading, state, message) for reading in (3, 6))
     for _ in range(500):
-        n, k = rng.randint(1, 64), rng.randint(1, 16)
+        n, k = rng.randint(1, 128), rng.randint(1, 16)
         body = random_table(rng, n, k)
         yield ask(body, "step", rng.choice([3, 6]), rng.choice([0, n - 1, rng.randrange(n)]), rng.choice([0, k - 1]))
         length = rng.choice([0, 1, 2, 3, rng.randint(0, 20), rng.randint(0, 300)])
@@ -237,7 +240,7 @@ def fallen_verdicts(rng):
     """Traces that end before the verdict falls, when it falls, later, and never; both readings."""
     kinds = set()
     for _ in range(250):
-        n, k = rng.randint(1, 64), rng.randint(1, 16)
+        n, k = rng.randint(1, 128), rng.randint(1, 16)
         body = rng.choice([random_table, vulnerable_table])(rng, n, k)
         messages = [rng.randrange(k) for _ in range(rng.randint(0, 60))]
         fell = reference.trace(body, 3, messages).count
@@ -283,7 +286,7 @@ def traces_in_files(rng):
 def damaged_bodies(rng, tables):
     """Each question 1 to 8 failing alone and with each later one, at the first, the last and any place."""
     for _ in range(tables):
-        n, k = rng.choice([1, 2, 3, rng.randint(4, 64)]), rng.choice([1, 2, rng.randint(1, 16)])
+        n, k = rng.choice([1, 2, 3, rng.randint(4, 128)]), rng.choice([1, 2, rng.randint(1, 16)])
         marks = [rng.choice([0, 1, 2]) for _ in range(n - 1)] + [rng.choice([1, 2])]
         body = random_table(rng, n, k, marks)
         for where in ("first", "last", "any"):
@@ -300,7 +303,7 @@ def damaged_in_listings(rng):
 
 def damaged_in_calls(rng):
     """A damaged table is refused first, whatever the numbers of the call are."""
-    calls = [["judge"], ["classes", 0], ["classes", 64], ["step", 5, 99, 99], ["step", 3, 0, 0], ["trace", 5, 99],
+    calls = [["judge"], ["classes", 0], ["classes", 128], ["step", 5, 199, 99], ["step", 3, 0, 0], ["trace", 5, 99],
              ["trace", 3], ["fault", 16, 5, 0], ["fault", 15, 3, 0], ["fault", 15, 6, ROOM], ["trust", 16, 5, 99, 0],
              ["trust", 15, 3, 0, 0], ["trust", 15, 6, 6, ROOM]]
     for body in damaged_bodies(rng, 10):
@@ -310,22 +313,22 @@ def damaged_in_calls(rng):
 
 def lengths_and_counts(rng):
     """Bodies of each length around the right one, with n and k around their limits."""
-    for n in (0, 1, 2, 63, 64, 65, 66, 128, 255):
+    for n in (0, 1, 2, 63, 64, 65, 66, 127, 128, 129, 130, 192, 255):
         for k in (0, 1, 2, 15, 16, 17, 18, 128, 255):
             right = 3 + n + n * k
             lengths = {0, 1, 2, 3, 4, right - 1, right, right + 1, right + 256}
             yield from (ask(bytes([n, k] + [0] * length)[:length], "judge") for length in sorted(lengths))
-    full = table(0, [0] * 64, [[63] * 16] * 64)
-    for length in (1090, 1091, 1092, 4096, 65535, 65536, 65537, 70000, 200000):
-        yield ask(full[:length] + bytes(max(0, length - 1091)), "judge")
-        yield ask(full[:length] + bytes(max(0, length - 1091)), "fault", 16, 5, 0)
-        yield ask(full[:length] + bytes(max(0, length - 1091)), "trust", 15, 3, 3, 0)
+    full = table(0, [0] * 128, [[127] * 16] * 128)
+    for length in (1091, 2178, 2179, 2180, 4096, 65535, 65536, 65537, 70000, 200000):
+        yield ask(full[:length] + bytes(max(0, length - 2179)), "judge")
+        yield ask(full[:length] + bytes(max(0, length - 2179)), "fault", 16, 5, 0)
+        yield ask(full[:length] + bytes(max(0, length - 2179)), "trust", 15, 3, 3, 0)
 
 
 def random_bytes(rng):
     """Bytes without any sense, and bytes that are small enough to pass some questions."""
     def body():
-        top = rng.choice([255, 255, 64, 16, 4, 2, 1])
+        top = rng.choice([255, 255, 128, 16, 4, 2, 1])
         return bytes(rng.randint(0, top) for _ in range(rng.choice([rng.randint(0, 6), rng.randint(0, 60)])))
 
     yield from map(listing, packed(body() for _ in range(4000)))
@@ -339,11 +342,11 @@ def random_bytes(rng):
 
 def numbers_around_limits(rng):
     """Sets, readings, verdicts, states, messages and areas around their limits, in bytes, in 64 bits and far beyond."""
-    for n, k in ((1, 1), (2, 2), (5, 3), (64, 16), (13, 7)):
+    for n, k in ((1, 1), (2, 2), (5, 3), (64, 2), (65, 2), (128, 16), (13, 7)):
         body = vulnerable_table(rng, n, k)
         sets = list(range(18)) + [255] + WIDE
         readings = list(range(9)) + [255, 256 + 3, 256 + 6] + WIDE
-        states = sorted({0, n - 1, n, n + 1, 63, 64, 255, 256 + n - 1, *WIDE})
+        states = sorted({0, n - 1, n, n + 1, 63, 64, 127, 128, 255, 256 + n - 1, *WIDE})
         messages = sorted({0, k - 1, k, k + 1, 15, 16, 255, 256 + k - 1, *WIDE})
         for faults in sets:
             for reading in (3, 5, 6):
@@ -510,7 +513,7 @@ def forms_for(rng, body):
     n, k = (body + b"\1\1")[:2]
     state, message = rng.randrange(max(1, n) + 1), rng.randrange(max(1, k) + 1)
     yield ["judge"]
-    yield ["classes", rng.choice([0, n, 64])]
+    yield ["classes", rng.choice([0, n, 128])]
     yield ["step", rng.choice([3, 6, 5]), state, message]
     yield ["trace", rng.choice([3, 6]), *[rng.randrange(max(1, k)) for _ in range(rng.randint(0, 9))], message]
     yield ["fault", rng.choice([1, 2, 4, 8, 15, 16]), rng.choice([3, 6]), rng.choice([0, 2, ROOM])]
@@ -541,8 +544,8 @@ def rules_of_collections(rng):
 def bodies_of_rules(rng):
     """The body of each rule, and of rules that are not there; collections that are refused; wrong arguments."""
     for _ in range(40):
-        bodies = [rng.choice([rng.choice(NAMED), random_table(rng, rng.randint(1, 64), rng.randint(1, 16)), b"", b"\xff" * 300])
-                  for _ in range(rng.randint(0, 8))]
+        bodies = [rng.choice([rng.choice(NAMED), random_table(rng, rng.randint(1, 128), rng.randint(1, 16)), b"",
+                              b"\xff" * 300]) for _ in range(rng.randint(0, 8))]
         rules = sorted(rng.sample(range(300), len(bodies)))
         data = collection(list(zip(rules, bodies)))
         for rule in {*rules, *[rule + 1 for rule in rules], 0, 65535, 65536 + rng.choice(rules + [0]), rng.choice(WIDE)}:
@@ -612,7 +615,7 @@ def wrong_bodies(rng):
     for count in (1, 2, 3, 6):
         for question in range(1, 9):
             for entry in range(count):
-                n, k = rng.choice([2, 3, rng.randint(4, 64)]), rng.choice([1, 2, rng.randint(1, 16)])
+                n, k = rng.choice([2, 3, rng.randint(4, 128)]), rng.choice([1, 2, rng.randint(1, 16)])
                 sound = [random_table(rng, n, k, [0] * (n - 1) + [rng.choice([1, 2])]) for _ in range(count)]
                 bodies = list(sound)
                 bodies[entry] = damaged(rng, sound[entry], (n, k), question, rng.choice(["first", "last", "any"]))
@@ -625,7 +628,7 @@ def wrong_bodies(rng):
 
 def longest_bodies(rng):
     """As many bodies as a collection can have, of 65,536 bytes together."""
-    bodies = [random_table(rng, 64, 16) for _ in range(57)] + [A] * 8 + [D] * 446 + [random_table(rng, 46, 12)]
+    bodies = [random_table(rng, 128, 16) for _ in range(28)] + [A] * 8 + [D] * 475 + [random_table(rng, 123, 12)]
     assert len(bodies) == 512 and sum(map(len, bodies)) == INPUT_LIMIT
     return bodies
 
@@ -686,14 +689,15 @@ def packed_files(rng):
             yield pairs([1, 2], [names[first], names[second]])
     for count in (511, 512, 513, 514, 600):
         yield pairs(range(count), [names[A]] * count)
-    large = [kept(f"large {i}", random_table(rng, 64, 16)) for i in range(60)]
-    fits, exceeds = kept("fits", random_table(rng, 62, 10)), kept("exceeds", random_table(rng, 57, 11))
-    assert size_of(range(60), [bytes(59 * 1091), random_table(rng, 62, 10)]) == INPUT_LIMIT
-    yield pairs(range(59), large)
-    yield pairs(range(60), large)
-    yield pairs(range(60), large[:59] + [fits])
-    yield pairs(range(60), large[:59] + [exceeds])
-    yield pairs(range(61), large[:59] + [names[A], names[E]])
+    large = [kept(f"large {i}", random_table(rng, 128, 16)) for i in range(30)]
+    half, *last = [random_table(rng, n, k) for n, k in ((64, 16), (77, 12), (59, 16))]
+    assert size_of(range(31), [bytes(29 * 2179), half, last[0]]) == INPUT_LIMIT
+    half, fits, exceeds = kept("half", half), kept("fits", last[0]), kept("exceeds", last[1])
+    yield pairs(range(29), large)
+    yield pairs(range(30), large)
+    yield pairs(range(31), large[:29] + [half, fits])
+    yield pairs(range(31), large[:29] + [half, exceeds])
+    yield pairs(range(31), large[:29] + [names[A], names[E]])
     for words in ([], [1], [names[A]], [names[A], 1], [1, names[A], 2], [65536, names[A]], ["x", names[A]], ["", ""],
                   [2**64, names[A]], [1, names[A], names[A], 2], ["01", names[A]]):
         yield pack(*words)
@@ -701,8 +705,8 @@ def packed_files(rng):
 
 def input_sizes(rng):
     """Inputs around 65,536 bytes; accepted collections of exactly that size."""
-    wide = [table(*late_repeat(64, 16))] + [random_table(rng, 64, 16, [0] * 62 + [1, 2]) for _ in range(57)]
-    filled = wide + [bytes(65536 - 2 - 8 * 59 - 1091 * 58)]
+    wide = [table(*late_repeat(128, 16))] + [random_table(rng, 128, 16, [0] * 126 + [1, 2]) for _ in range(28)]
+    filled = wide + [bytes(65536 - 2 - 8 * 30 - 2179 * 29)]
     exact = [collection(list(enumerate(filled))), collection([(9, bytes(65526))]),
              collection([(i, A) for i in range(511)] + [(65535, bytes(65536 - 2 - 8 * 512 - 9 * 511))])]
     for data in exact:
@@ -715,7 +719,7 @@ def input_sizes(rng):
             yield from both(data)
             yield ask(data, "judge")
             yield ask(data, "trace", 3, 0)
-            forms = ["classes", 64], ["step", 3, 0, 0], ["fault", 16, 5, 0], ["trust", 16, 5, 9, 0]
+            forms = ["classes", 128], ["step", 3, 0, 0], ["fault", 16, 5, 0], ["trust", 16, 5, 9, 0]
             yield ask(data, *rng.choice(forms))
 
 

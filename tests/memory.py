@@ -27,24 +27,25 @@ def card(data, *words):
 def large_tables():
     """The longest accepted tables, the longest distances, and states that settle last."""
     rng = random.Random("memory")
-    far, row = table(*late_repeat(64, 16)), table(*in_a_row(64, 16))
-    for body in (far, random_table(rng, 64, 16), table(63, [0] * 64, [[63] * 16] * 64), table(0, [0], [[0] * 16])):
+    far, row = table(*late_repeat(128, 16)), table(*in_a_row(128, 16))
+    last = [table(n - 1, [0] * n, [[n - 1] * 16] * n) for n in (1, 64, 65, 128)]
+    for body in (far, random_table(rng, 64, 16), random_table(rng, 65, 16), random_table(rng, 128, 16), *last):
         yield ask(body, "judge")
-        yield ask(body, "classes", 64)
-    for area in (124, 125, ROOM):
+        yield ask(body, "classes", 128)
+    for area in (252, 253, ROOM):
         yield ask(far, "fault", 4, 3, area)
-    for area in (63, 64):
+    for area in (127, 128):
         yield ask(row, "fault", 8, 6, area)
     for area in (0, 2**64 - 1, 2**64 + 3):
         yield ask(A, "fault", 2, 3, area)
     yield ask(far, "fault", 15, 6, ROOM)
-    for body, distance in zip(RINGS, (61, 421, 443)):
+    for body, distance in zip(RINGS, (61, 421, 443, 1915), strict=True):
         for area in (distance - 1, distance, ROOM, 2**64 - 1):
             yield ask(body, "trust", 4, 3, 1, area)
-    for area in (0, 4162, 4163):
+    for area in (0, 16514, 16515):
         yield ask(RINGS[-1], "trust", 15, 6, 5, area)
         yield ask(far, "trust", 15, 6, 0, area)
-    yield ask(far, "step", 6, 63, 15)
+    yield ask(far, "step", 6, 127, 15)
     yield ask(far, "trace", 6, *[rng.randrange(16) for _ in range(10000)])
     yield ask(far, "trace", 3, *[0] * 9999, 16)
     for name, messages in (("none", []), ("most", [0] * 262143 + [15]), ("wrong", [0] * 262143 + [16]), ("longer", [0] * 262145)):
@@ -53,10 +54,10 @@ def large_tables():
     for word in ("@", "@" + FILES.name, "@tests/none", "@" + LONG):
         yield ask(far, "trace", 3, word)
     for k, rising in ((1, True), (16, False)):
-        body = table(*settling(64, k, 2, rising))
-        yield ask(body, "classes", 64)
+        body = table(*settling(128, k, 2, rising))
+        yield ask(body, "classes", 128)
         yield ask(body, "fault", 15, 3, 0)
-        yield ask(table(*settling(64, k, 2, rising, 32)), "trust", 15, 6, 1, ROOM)
+        yield ask(table(*settling(128, k, 2, rising, 64)), "trust", 15, 6, 1, ROOM)
     both = collection([(1, far), (65535, row)])
     yield listing(both)
     yield card(both)
@@ -71,7 +72,7 @@ def collections():
         yield ask(data, "collection")
         yield listing(data)
         yield card(data)
-    for words in (["judge"], ["classes", 64], ["step", 6, 0, 1], ["trace", 3, 0, 1], ["fault", 15, 6, ROOM],
+    for words in (["judge"], ["classes", 128], ["step", 6, 0, 1], ["trace", 3, 0, 1], ["fault", 15, 6, ROOM],
                   ["trust", 15, 6, 5, ROOM]):
         for rule in (0, 510, 511, 65535, 65536):
             yield ask(most, "rule", rule, *words)
@@ -120,9 +121,9 @@ def written():
         yield write([1, 2], [len(body), len(wrong)], body + wrong, 1000)
         yield pack(1, kept("sound", body), 2, kept(f"wrong {broken.index(wrong)}", wrong))
     names = [kept(f"body {i}", body) for i, body in enumerate(bodies)]
-    full = kept("full", random_table(rng, 64, 16))
-    for last in (full, kept("fits", random_table(rng, 62, 10)), kept("exceeds", random_table(rng, 57, 11))):
-        yield pack(*[word for rule in range(59) for word in (rule, full)], 59, last)
+    full, half = kept("full", random_table(rng, 128, 16)), kept("half", random_table(rng, 64, 16))
+    for last in (full, kept("fits", random_table(rng, 77, 12)), kept("exceeds", random_table(rng, 59, 16))):
+        yield pack(*[word for rule in range(29) for word in (rule, full)], 29, half, 30, last)
     yield pack(*[word for rule in range(513) for word in (rule, names[-2])])
     yield pack(*[word for rule in range(600) for word in (rule, names[-2])])
     yield pack(2, names[0], 1, names[0])

@@ -38,7 +38,7 @@ def judge(b):
     if len(b) < 3:
         return 1, len(b)
     n, k, start = b[:3]
-    if not 1 <= n <= 64:
+    if not 1 <= n <= 128:
         return 2, 0
     if not 1 <= k <= 16:
         return 3, 1

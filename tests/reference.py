@@ -11,6 +11,7 @@ from collections import namedtuple
 LOSS, CORRUPTION, REPEAT, SWAP = 1, 2, 4, 8
 GOOD, BAD, POSITIVE, NEGATIVE, NEUTRAL, UGLY = range(6)
 MONITORABILITY = ("pos", "neg", "both", "none")
+STATE_LIMIT = 128
 INPUT_LIMIT = 65536
 HEADER = "rule states class loss corruption repeat swap\n"
 
@@ -40,7 +41,7 @@ def drawn_table(body):
     """Questions 1 to 8, and the table with its marks as drawn."""
     question(len(body) >= 3, 1, len(body))
     n, k, start = body[0], body[1], body[2]
-    question(1 <= n <= 64, 2, 0)
+    question(1 <= n <= STATE_LIMIT, 2, 0)
     question(1 <= k <= 16, 3, 1)
     question(len(body) == 3 + n + n * k, 4, len(body))
     question(start < n, 5, 2)
@@ -327,7 +328,7 @@ def write_collection(rules, lengths, bodies, area_length):
 
 def listing_line(rule, body):
     try:
-        monitorability = MONITORABILITY[classes(body, 64).monitorability]
+        monitorability = MONITORABILITY[classes(body, STATE_LIMIT).monitorability]
     except Refused as no:
         return f"{rule} refused {no.number} {no.place}\n"
     witnesses = [fault(body, kind, 3, INPUT_LIMIT) for kind in (LOSS, CORRUPTION, REPEAT, SWAP)]

@@ -16,6 +16,8 @@ from tables import (A, B, C, D, E, G, H, HARMED_EARLIER, SETTLING, UNREACHED_SET
                     settling_table)
 
 LISTING = "target/bin/listing"
+# Numbers of states around the bits of a word, and around the most.
+ROWS = 63, 64, 65, 127, 128
 HEADER = "rule states class loss corruption repeat swap\n"
 
 
@@ -52,7 +54,8 @@ def facts_of_h():
 
 
 def other_facts():
-    """A state that settles and is not reached, a table with other distances, states that do not settle, rows of 64."""
+    """A state that settles and is not reached, a table with other distances, states that do not settle, rows of up to
+    128."""
     yield [1, 2, 0, 0, *UNREACHED_SETTLES], "monitorability pos reached 1 0 0"
     yield [5, 0, 0, 0, *HARMED_EARLIER], "3 pos 1 1 - -"
     yield from (([2, d, 0, 1, *HARMED_EARLIER], f"state 1 reading {true}") for d, true in ((3, 1), (6, 0)))
@@ -63,11 +66,11 @@ def other_facts():
     yield [1, 2, 0, 0, *A], "monitorability pos reached 2 2 0"
     both = [6, 2, 5, 0, 0, 0, 1, 2, 0, 1, 2, 3, 3, 4, 4, 3, 3, 4, 4, 0, 0]
     yield [1, 6, 0, 0, *both], "monitorability both reached 6 4 0 1 0 1 4"
-    for verdict, word in ((1, "pos"), (2, "neg")):
-        row = [64, 1, 0, *[0] * 63, verdict, *range(1, 64), 63]
-        yield [1, 64, 0, 0, *row], f"monitorability {word} reached 64" + listed([verdict - 1] * 64)
+    for (verdict, word), n in itertools.product(((1, "pos"), (2, "neg")), ROWS):
+        row = [n, 1, 0, *[0] * (n - 1), verdict, *range(1, n), n - 1]
+        yield [1, n, 0, 0, *row], f"monitorability {word} reached {n}" + listed([verdict - 1] * n)
         yield [3, 3, 0, 0, *row], f"reading {verdict} count 0"
-        yield [5, 0, 0, 0, *row], f"64 {word} - - - -"
+        yield [5, 0, 0, 0, *row], f"{n} {word} - - - -"
 
 
 def listing(bodies):
@@ -157,10 +160,12 @@ def main():
     small = [b for n, k in itertools.product((1, 2, 3), (1, 2)) for b in all_tables(n, k)]
     check_lengths(small)
     larger = [make(r, r.randint(4, 12), r.randint(1, 4)) for make in (random_table, settling_table) for _ in range(200)]
-    larger = [list(b) for b in larger + SETTLING]
+    large = [settling_table(r, n, r.randint(1, 4)) for n in ROWS for _ in range(2)]
+    larger = [list(b) for b in larger + SETTLING + large]
     check(changed_classes(small + larger), {(2, 0), (3, 1)}, "the classes that change")
     changed = [b for b in small + larger if settled(b) != drawn(b)]
-    alike = check_written(r.sample([b for b in changed if b[0] < 10], 60) + [b for b in changed if b[0] > 10][:9])
+    chosen = r.sample([b for b in changed if b[0] < 10], 60) + r.sample([b for b in changed if 10 < b[0] < 63], 9)
+    alike = check_written(chosen + [b for b in changed if bytes(b) in large])
     print(f"settled: {facts} answers as written out, the classes of {len(small + larger)} tables change from 2 to 0 "
           f"and from 3 to 1 alone, and {alike} answers are the same with settled marks written in")
 

@@ -153,7 +153,7 @@ def settling(n, k, mark, rising, stays=None):
 
 def settling_tables():
     """Each such row of states: all of them reached, none but the marked one, and with half of them settled."""
-    for n, k in ((2, 1), (3, 2), (4, 2), (64, 1), (64, 16)):
+    for n, k in ((2, 1), (3, 2), (4, 2), (64, 1), (64, 16), (65, 2), (128, 1), (128, 16)):
         for mark, rising in ((1, False), (1, True), (2, False), (2, True)):
             start, marks, rows = settling(n, k, mark, rising)
             yield table(start, marks, rows)
@@ -182,7 +182,7 @@ def settling_table(rng, n, k):
     marks, rows, settles = [], [], []
     for state in range(n):
         verdict = rng.choice([1, 2])
-        alike = [s for s in range(state) if settles[s] == verdict][-rng.choice([1, 2, 64]):]
+        alike = [s for s in range(state) if settles[s] == verdict][-rng.choice([1, 2, 128]):]
         marked = not alike or rng.random() < 0.1
         rows.append([rng.choice([state] if marked else alike) for _ in range(k)])
         if not marked and rng.random() < 0.15:
@@ -209,7 +209,7 @@ def damaged(rng, body, size, number, where):
     if number == 1:
         return body[:chosen(rng, [0, 1, 2], where)]
     if number == 2:
-        data[0] = chosen(rng, [0, 66, 128, 255, 65], where)
+        data[0] = chosen(rng, [0, 130, 192, 255, 129], where)
     elif number == 3:
         data[1] = chosen(rng, [0, 18, 128, 255, 17], where)
     elif number == 4:

@@ -62,7 +62,7 @@ pub fn help() {
             b"1 bad, 2 positive, 3 negative, 4 neutral, 5 ugly. It can be believed if the sent trace reads it\n",
         )
         .text(
-            b"wherever the received one does. AREA is the number of bytes lent for the answer: 5000 is always\n",
+            b"wherever the received one does. AREA is the number of bytes lent for the answer: 16514 is always\n",
         )
         .text(b"enough, for write 69634. A refusal is the word refused, a number and a place.\n\n")
         .text(b"Example: ask rule 20 fault 8 3 3 < samples/sample.collection\n")

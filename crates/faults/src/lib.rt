@@ -400,25 +400,33 @@ fn cost_at(square: &[u16], nexts: &[u8], n: usize, k: usize, set: FaultSet, p: u
     least
 }
 
-// What the cheapest fault of the set costs at every state.
-pub fn costs(
+// No cost is known yet.
+pub fn no_costs() -> [usize; STATE_LIMIT]
+    ensures { λ r. ⌜ length r ≡ stateLimit ⌝ }
+{
+    [NEVER; STATE_LIMIT]
+}
+
+// Enters what the cheapest fault of the set costs at every state.
+pub fn enter_costs(
+    costs: &mut [usize; STATE_LIMIT],
     square: &[u16],
     nexts: &[u8],
     n: usize,
     k: usize,
     set: FaultSet,
-) -> [usize; STATE_LIMIT]
+)
+    requires { ⌜ length (now costs) ≡ stateLimit ⌝ }
     requires { ⌜ Rows stateLimit n k (now nexts) ⌝ }
     requires { ⌜ HasRows n (now square) ⌝ }
-    ensures { λ r. ⌜ Costs (graph n k (nexts .entry)) (now (square .entry)) (steps (set .bits) k) n r ⌝ }
+    ensures { λ _. ⌜ Costs (graph n k (nexts .entry)) (now (square .entry)) (steps (set .bits) k) n
+        (now (costs .exit)) ⌝ }
 {
-    let mut costs = [NEVER; STATE_LIMIT];
     let mut p = 0;
     while p < n {
         costs[p] = cost_at(square, nexts, n, k, set, p);
         p += 1;
     }
-    costs
 }
 
 // The first fault of the set, in the written order, that costs what the cheapest at p does.

@@ -282,10 +282,12 @@ module _ {g : Automaton} {ends : ℕ → ℕ → Bool} {predecessors : List ℕ}
           → Midway g ends r (λ x q b. done x q b || rowDone part p a x q b) square′ alike′ next′ active′ rows′
       spread-new O = record {
         kept = kept-after;
-        active-rows = record { at = λ x q lx t. ⊎-elim
-            (λ o. o)
-            (λ h. (let e = h .0 in absurd (clash (rw e at t) (h .1 q (eq-eqb (q / 64) (q / 64) refl)))))
-            (O (q / 64) x (M .active-rows .at x q lx (alike-before x q t))) };
+        active-rows = record {
+          at = λ x q lx t. ⊎-elim
+              (λ o. o)
+              (λ h. (let e = h .0 in absurd (clash (rw e at t) (h .1 q (eq-eqb (q / 64) (q / 64) refl)))))
+              (O (q / 64) x (M .active-rows .at x q lx (alike-before x q t)));
+        };
         old = λ x q s lx lq ls. ⊎-elim
             (λ h.
             let e : entry square x q ≡ never = (let k = h .0 in rw k (new-says q (h .1) .1)) in

@@ -214,7 +214,7 @@ symbol-done {g} x a v w {sets = sets} {active₀ = active₀} set lx la is step 
       let ab = eqb-true b a eb in
       let ex = and-left (eqb (g .next p b) x) (eqb b a) rest in
       let at : setAt sets (x * symbolLimit + a) p ≡ true = G .preceding .at x a p lx la
-          ∙ and-both (ltb p (g .states)) (eqb (g .next p a) x) (lt-ltb p (g .states) lp) (rw (← ab) ex) in
+      ∙ and-both (ltb p (g .states)) (eqb (g .next p a) x) (lt-ltb p (g .states) lp) (rw (← ab) ex) in
       let ew = eqb-true (q / 64) w eq in
       by (done p q b) (isPart w q) (eqb b a) eq eb (setAt active₀ (q / 64) p) (set p) (is p ∙ rw (ep, at, ew)))
       (or-cases (done p q b) (symbolDone g x (isPart v) (isPart w) a p q b) t));

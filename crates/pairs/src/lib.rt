@@ -328,7 +328,22 @@ fn spread_block(
     let mut found = rows;
     let mut a = 0;
     while a < k {
-        found = spread_symbol(square, alike, next, active, predecessors, n, k, x, a, v, w, front, r, found);
+        found = spread_symbol(
+            square,
+            alike,
+            next,
+            active,
+            predecessors,
+            n,
+            k,
+            x,
+            a,
+            v,
+            w,
+            front,
+            r,
+            found,
+        );
         a += 1;
     }
     found
@@ -358,13 +373,69 @@ fn spread_state(
         (now (square .entry)) (now (alike .entry)) (now (next .entry)) (now (active .entry)) (member rows)
         (now (square .exit)) (now (alike .exit)) (now (next .exit)) (now (active .exit)) (member after)) ⌝ }
 {
-    let one = spread_block(square, alike, next, active, predecessors, n, k, x, 0, 0, front, r, rows);
+    let one = spread_block(
+        square,
+        alike,
+        next,
+        active,
+        predecessors,
+        n,
+        k,
+        x,
+        0,
+        0,
+        front,
+        r,
+        rows,
+    );
     if n <= WORD {
         return one;
     }
-    let two = spread_block(square, alike, next, active, predecessors, n, k, x, 0, 1, front, r, one);
-    let three = spread_block(square, alike, next, active, predecessors, n, k, x, 1, 0, front, r, two);
-    spread_block(square, alike, next, active, predecessors, n, k, x, 1, 1, front, r, three)
+    let two = spread_block(
+        square,
+        alike,
+        next,
+        active,
+        predecessors,
+        n,
+        k,
+        x,
+        0,
+        1,
+        front,
+        r,
+        one,
+    );
+    let three = spread_block(
+        square,
+        alike,
+        next,
+        active,
+        predecessors,
+        n,
+        k,
+        x,
+        1,
+        0,
+        front,
+        r,
+        two,
+    );
+    spread_block(
+        square,
+        alike,
+        next,
+        active,
+        predecessors,
+        n,
+        k,
+        x,
+        1,
+        1,
+        front,
+        r,
+        three,
+    )
 }
 
 // The round after r: from the fresh pairs, which are at r, to those at r + 1, each fresh pair once. The rows are those
@@ -404,7 +475,19 @@ fn spread(
         }
         let front = StateSet::read(fresh, x).intersection(all);
         StateSet::empty().write(fresh, x);
-        found = spread_state(square, alike, next, active, predecessors, n, k, x, front, r, found);
+        found = spread_state(
+            square,
+            alike,
+            next,
+            active,
+            predecessors,
+            n,
+            k,
+            x,
+            front,
+            r,
+            found,
+        );
         left = left.without(x);
     }
 }
@@ -581,8 +664,32 @@ fn enter_rounds(
     let mut rows = begin(square, alike, fresh, outputs, all, test);
     let mut r = 0u16;
     while !is_empty(rows) {
-        let found = spread(square, alike, fresh, next, &mut active, sets, n, k, all, r, rows);
-        rows = spread(square, alike, next, fresh, &mut active, sets, n, k, all, r + 1, found);
+        let found = spread(
+            square,
+            alike,
+            fresh,
+            next,
+            &mut active,
+            sets,
+            n,
+            k,
+            all,
+            r,
+            rows,
+        );
+        rows = spread(
+            square,
+            alike,
+            next,
+            fresh,
+            &mut active,
+            sets,
+            n,
+            k,
+            all,
+            r + 1,
+            found,
+        );
         r += 2;
     }
 }

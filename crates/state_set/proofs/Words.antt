@@ -4,7 +4,6 @@ use mathlib.Core.Bool.{Bool, true, false, cond, not, _&&_, _||_, and-false, or-f
 use mathlib.Core.List.{List}
 use mathlib.Core.Logic.{⊎-elim}
 use Prim.Native.Nat.{ℕ, zero, suc, _+_, _-_, _*_, _/_, _%_, _^_, _≤_, _<_, zero-le}
-use native.Mathlib.Nat.{mod-lt}
 use native.Mathlib.Omega.{arith}
 use lib.Dec.{eqb, ltb}
 use lib.ListN.{length, getD, set, replicate, length-set, getD-replicate}
@@ -183,7 +182,7 @@ part-written words i w word lw l = record {
       (lt-or-le q 128);
   elsewhere = λ j q ne. rw (
     getD-set-other words (i * 2 + w) (j * 2) word 0 (λ e. ne (omega (arith, e, lw))),
-    getD-set-other words (i * 2 + w) (j * 2 + 1) word 0 (λ e. ne (omega (arith, e, lw)))
+    getD-set-other words (i * 2 + w) (j * 2 + 1) word 0 (λ e. ne (omega (arith, e, lw))),
   );
 }
   where

@@ -284,11 +284,3 @@ first-upper m n f g h none =
         let e : j ≡ m + (j - m) = omega (arith, l) in
         ap f e ∙ h (j - m) ∙ first-below g 0 n (j - m) zero-le (omega (arith, l, b)))
         (lt-or-le j m)
-
--- counted from a
-pub first-shift : (a c : ℕ) (f g : ℕ → Bool) → ((i : ℕ) → f (a + i) ≡ g i) → first f a c ≡ a + first g 0 c
-first-shift a c f g h =
-    first-is f c a (a + first g 0 c) (omega arith) (omega (arith, first-le g 0 c)) below (λ l. h (first g 0 c) ∙ first-here g 0 c (omega (arith, l)))
-  where
-    below : (j : ℕ) → a ≤ j → j < a + first g 0 c → f j ≡ false
-    below j l m = (let e : j ≡ a + (j - a) = omega (arith, l) in ap f e ∙ h (j - a) ∙ first-below g 0 c (j - a) zero-le (omega (arith, l, m)))

@@ -1,6 +1,6 @@
 -- The binary digits of a word, as tests: what the code's operations on words do to them.
 use mathlib.Core.Path.{_≡_, refl, sym, ap, _∙_}
-use mathlib.Core.Bool.{Bool, true, false, cond, not, _&&_, _||_, and-true, and-false, or-false}
+use mathlib.Core.Bool.{Bool, true, false, cond, not, _&&_, _||_, and-true}
 use mathlib.Core.Logic.{_⊎_, inl, inr}
 use Prim.Native.Nat.{ℕ, zero, suc, _+_, _-_, _*_, _/_, _%_, _^_, _≤_, _<_, suc-le-suc, min, max}
 use native.Mathlib.Nat.{mod-lt, zero-lt-suc, zero-div, div-one, div-div-eq-div-mul, div-eq-of-lt, pow-suc, pow-succ', lt-of-lt-of-le, not-suc-le-zero}
@@ -10,7 +10,7 @@ use lib.Dec.{eqb, ltb, eqb·zero-suc, eqb·suc-zero, eqb·suc-suc, lit<}
 use lib.Bits.{bitAnd, bitOr, and-step, or-step, and-shr, or-shr, and-mask}
 use lib.Count.{ones, ones-step, trailingZeros, under}
 use lib.Pow.{pow-mono, shl-exact}
-use borrow.Author.Tests.{lt-ltb, le-ltb}
+use borrow.Author.Tests.{lt-ltb}
 use Rattle.theory.specs.Below.{count, first}
 use Rattle.theory.proofs.Below.{lt-or-le, count-from, first-from}
 
@@ -129,10 +129,6 @@ bit-one k q l p = ap (λ (x : ℕ). bit x p) (shl-exact {a = 1} 1 q k (lit< tt) 
 pub bit-with : (k m q : ℕ) → q < k → (p : ℕ) → bit (bitOr m ((1 * 2 ^ q) % 2 ^ k)) p ≡ (bit m p || (eqb p q && ltb q k))
 bit-with k m q l p =
     bit-or m ((1 * 2 ^ q) % 2 ^ k) p ∙ ap (λ (x : Bool). bit m p || x) (bit-one k q l p ∙ rw (lt-ltb q k l, and-true))
-
--- and a q past the word adds nothing
-pub bit-with-past : (k m q : ℕ) → k ≤ q → (p : ℕ) → bit m p ≡ (bit m p || (eqb p q && ltb q k))
-bit-with-past k m q l p = rw (le-ltb q k l, and-false, or-false)
 
 -- `(m >> q) & 1`
 pub bit-read : (m q : ℕ) → eqb (bitAnd (m / 2 ^ q) 1) 1 ≡ bit m q

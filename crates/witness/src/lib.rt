@@ -154,7 +154,8 @@ pub fn find_first(
         (now (area .entry)) ⌝ }
 {
     let start = t.start;
-    let costs = faults::costs(square, nexts, t.states, t.symbols, set);
+    let mut costs = faults::no_costs();
+    faults::enter_costs(&mut costs, square, nexts, t.states, t.symbols, set);
     let mut totals = costs;
     totals::relax(&mut totals, nexts, t.states, t.symbols);
     let distance = totals[start];

@@ -1,6 +1,5 @@
 -- `column_of` meets its contract.
-use mathlib.Core.Path.{sym, _∙_}
-use native.Mathlib.Nat.{le-of-eq}
+use mathlib.Core.Path.{_∙_}
 use borrow.Author.Needs.{needs}
 use Rattle.monitor.specs.Opening.{monitorIn}
 use Rattle.pairs.specs.declared.Test.the-variants.{Differ}

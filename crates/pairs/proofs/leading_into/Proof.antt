@@ -1,9 +1,9 @@
 -- `leading_into` meets its contract: what was gathered, and what leads into the states that are left, make the whole.
 use mathlib.Core.Path.{_≡_}
-use mathlib.Core.Bool.{true, not}
+use mathlib.Core.Bool.{true}
 use Prim.Native.Nat.{ℕ, _<_}
 use native.Mathlib.Omega.{arith}
-use lib.Dec.{eqb, ltb}
+use lib.Dec.{ltb}
 use borrow.Author.Needs.{needs}
 use Rattle.theory.specs.Automaton.{Automaton}
 use Rattle.state_set.specs.Member.{isPart, inPart}

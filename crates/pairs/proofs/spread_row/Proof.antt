@@ -1,5 +1,4 @@
 -- `spread_row` meets its contract: nothing is new, or what is new is entered.
-use mathlib.Core.Path.{_≡_, _∙_}
 use Prim.Native.Nat.{_^_, _<_}
 use native.Mathlib.Omega.{arith}
 use lib.Bits.{bitAnd, and-le-l}

@@ -6,7 +6,6 @@ use Prim.Native.Nat.{ℕ, _+_, _*_, _<_}
 use native.Mathlib.Omega.{arith}
 use lib.Dec.{ltb}
 use lib.ListN.{length}
-use borrow.Author.Needs.{needs}
 use Rattle.theory.specs.Automaton.{Automaton, Closed}
 use Rattle.theory.specs.Monitor.{symbolLimit}
 use Rattle.state_set.specs.Member.{isPart, inPart, member, setAt}

@@ -1,17 +1,13 @@
 -- `spread_symbol` meets its contract: of the rows from which a leads to x, the active ones are done.
-use mathlib.Core.Path.{_≡_, sym, _∙_}
-use mathlib.Core.Bool.{true, _&&_}
-use Prim.Native.Nat.{ℕ, _+_, _*_, _<_}
+use mathlib.Core.Path.{sym, _∙_}
+use Prim.Native.Nat.{_+_, _*_, _<_}
 use native.Mathlib.Omega.{arith}
 use lib.Bits.{bitAnd}
-use lib.Dec.{ltb}
 use borrow.Author.Needs.{needs}
-use Rattle.theory.specs.Automaton.{Closed}
 use Rattle.theory.specs.Monitor.{symbolLimit}
 use Rattle.theory.proofs.Below.{and-left, and-right}
 use Rattle.state_set.specs.Member.{isPart, inPart, member, setAt}
 use Rattle.state_set.proofs.Words.{part-and, part-or}
-use Rattle.pairs.specs.Layers.{Preceding, Into}
 use Rattle.pairs.proofs.Visit.{word-none}
 use Rattle.pairs.proofs.Gather.{into-both}
 use Rattle.pairs.proofs.Rounds.{symbol-done, set-nothing}
@@ -67,9 +63,11 @@ spread-rows-requires c κs =
       room .alike-sets,
       room .next-sets,
       room .active-sets,
-      record { at = λ y t. room .predecessors-in (s .args .x) (s .args .a) y (p .3) (p .4)
-          (and-right (isPart v y) _ (sym (leading .ensures y)
-          ∙ and-left (inPart v (leading .result) y) (inPart v (active .result) y) (sym (part-and v (leading .result) (active .result) y) ∙ t))) },
+      record {
+        at = λ y t. room .predecessors-in (s .args .x) (s .args .a) y (p .3) (p .4)
+            (and-right (isPart v y) _ (sym (leading .ensures y)
+            ∙ and-left (inPart v (leading .result) y) (inPart v (active .result) y) (sym (part-and v (leading .result) (active .result) y) ∙ t)));
+      },
       p .5,
       p .6,
       p .7,

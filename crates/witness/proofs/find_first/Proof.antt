@@ -14,20 +14,23 @@ use Rattle.witness.proofs.Answers.{is-number, says-immune, says-no-room
 use Rattle.witness.proofs.find_first.Statement.{statement}
 use Rattle.witness.proofs.find_first.Tie as tie
 
+enter-costs-requires : tie.Need-enter-costs-requires
+enter-costs-requires c κs = (let p = c .before .before .before .before .before .before .before .pre .1 in (c .before .no-costs .ensures, (p .rows, p .squared .size)))
+
 relax-requires : tie.Need-relax-requires
 relax-requires c κs =
-    let r = c .before .costs .ensures in
-    (c .before .before .before .before .before .before .before .pre .1 .rows, record { size = r .size; most = λ p l. r .each p l .most })
+    let r = c .before .enter-costs .ensures in
+    (c .before .before .before .before .before .before .before .before .before .pre .1 .rows, record { size = r .size; most = λ p l. r .each p l .most })
 
 seen : (c : tie.After-relax)
-    → (let a = c .before .before .before .before .before .before .before .before .args in
-    Searched (automatonIn (a .t) (a .nexts .now)) (apartAtOnce (a .square .now)) (a .set .bits) (a .square .now) (c .before .before .costs .result)
+    → (let a = c .before .before .before .before .before .before .before .before .before .before .args in
+    Searched (automatonIn (a .t) (a .nexts .now)) (apartAtOnce (a .square .now)) (a .set .bits) (a .square .now) (c .before .before .enter-costs .last .0)
     (c .relax .last .0))
-seen c = searched _ (c .before .before .before .before .before .before .before .before .pre .1) (c .before .before .costs .ensures) (c .relax .ensures)
+seen c = searched _ (c .before .before .before .before .before .before .before .before .before .before .pre .1) (c .before .before .enter-costs .ensures) (c .relax .ensures)
 
 returns : tie.Need-returns
 returns c =
-    let s = c .before .before .before .before .before .before .before .before .before in
+    let s = c .before .before .before .before .before .before .before .before .before .before .before in
     let h = seen (c .before) in
     let i = s .pre .1 .start-in in
     let m = monitorIn (s .args .t) (s .args .marks) (s .args .nexts) in
@@ -38,7 +41,7 @@ returns c =
 
 returns-2 : tie.Need-returns-2
 returns-2 c =
-    let s = c .before .before .before .before .before .before .before .before .before .before in
+    let s = c .before .before .before .before .before .before .before .before .before .before .before .before in
     let h = seen (c .before .before) in
     let i = s .pre .1 .start-in in
     let m = monitorIn (s .args .t) (s .args .marks) (s .args .nexts) in
@@ -48,7 +51,7 @@ returns-2 c =
 witness-of-requires : tie.Need-witness-of-requires
 witness-of-requires c κs =
     let r = c .before .before .before .before .before in
-    let p = r .before .before .before .before .before .before .before .before .pre in (
+    let p = r .before .before .before .before .before .before .before .before .before .before .pre in (
       p .0,
       record {
         posed = p .1;
@@ -62,7 +65,7 @@ witness-of-requires c κs =
 returns-3 : tie.Need-returns-3
 returns-3 c =
     let r = c .before .before .before .before .before .before .before .before in
-    let s = r .before .before .before .before .before .before .before .before in
+    let s = r .before .before .before .before .before .before .before .before .before .before in
     let i = s .pre .1 .start-in in
     let m = monitorIn (s .args .t) (s .args .marks) (s .args .nexts) in
     let low = is-number (seen r) i (c .before .before .before .before .before .before .before .if1 .left) in
@@ -75,5 +78,5 @@ returns-3 c =
 pub find-first-spec : {M : Type 1} → statement M
 find-first-spec =
     tie.close (tie.spec
-    (λ c κs. search needs) relax-requires (λ c. search needs) (λ c. search needs) returns returns-2 witness-of-requires
+    (λ c κs. search needs) enter-costs-requires relax-requires (λ c. search needs) (λ c. search needs) returns returns-2 witness-of-requires
     (λ c. search needs) returns-3)
