@@ -124,7 +124,7 @@ def named_anew(r, body, of):
 
 
 def calls(r, body):
-    """What stands before the body in a frame whose answer names no state. The area holds the longest distance."""
+    """What stands before the body in a frame whose answer names no state. The area holds the longest distance of a fault question."""
     n, k = body[:2]
     for d in READINGS:
         traces = ([r.randrange(k) for _ in range(length)] for length in (0, 5, 60, 200))

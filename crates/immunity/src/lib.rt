@@ -140,7 +140,7 @@ fn columns_of(
     columns
 }
 
-// The columns of a table, with a square that is filled.
+// The columns of a table, in a blank square.
 fn columns_in(
     square: &mut [u16],
     marks: &[u8],

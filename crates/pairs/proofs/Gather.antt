@@ -26,10 +26,10 @@ pub record Below (q : ℕ) (f : ℕ → Bool) : Type 0 where
 pub below-none : {f : ℕ → Bool} → ((x : ℕ) → f x ≡ false) → Below 0 f
 below-none none = record { at = λ x. none x ∙ rw (le-ltb x 0 zero-le) }
 
-pub below-more : {q : ℕ} {f h : ℕ → Bool} → Below q f → q < stateLimit → ((x : ℕ) → h x ≡ (f x || (eqb x q && ltb q stateLimit))) → Below (q + 1) h
-below-more {q} B l is = record {
+pub below-more : (limit : ℕ) {q : ℕ} {f h : ℕ → Bool} → Below q f → q < limit → ((x : ℕ) → h x ≡ (f x || (eqb x q && ltb q limit))) → Below (q + 1) h
+below-more limit {q} B l is = record {
   at = λ x.
-      is x ∙ rw (B .at x, lt-ltb q stateLimit l)
+      is x ∙ rw (B .at x, lt-ltb q limit l)
       (⊎-elim
       (λ (b : x < q). rw (lt-ltb x q b, lt-ltb x (q + 1) (omega arith)))
       (λ b. ⊎-elim
@@ -219,7 +219,8 @@ into-both {g} {a} {part} {set} closed la few L H is A B = record {
     other false b = refl
 
     either : (q : ℕ) → g .next q a < g .states
-        → ((part q && (isPart 0 (g .next q a) && set (g .next q a))) || (part q && (isPart 1 (g .next q a) && set (g .next q a)))) ≡ (part q && set (g .next q a))
+        → ((part q && (isPart 0 (g .next q a) && set (g .next q a))) || (part q && (isPart 1 (g .next q a) && set (g .next q a)))) ≡
+        (part q && set (g .next q a))
     either q l =
         let z = g .next q a in
         ⊎-elim

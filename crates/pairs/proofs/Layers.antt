@@ -348,7 +348,10 @@ module _ (w : ℕ) {g : Automaton} (p a r : ℕ) (fits : r + 1 < never) (lp : p 
       (H : (q : ℕ) → here q ≡ (isPart w q && setAt alike p q)) (N : (q : ℕ) → new q ≡ (here q && into q)) where
     pub row-none : ((q : ℕ) → new q ≡ false)
         → GoesAt g r (g .next p a) front (rowDone (isPart w) p a) sets square alike next active rows square alike next active rows
-    row-none none = record { goes = λ ends done G F M. spread-none G fits lp la F M (I (G .closed) (G .preceding)) (new-is (I (G .closed) (G .preceding)) (setAt alike p) new here H N) none }
+    row-none none = record {
+      goes = λ ends done G F M. spread-none G fits lp la F M (I (G .closed) (G .preceding))
+          (new-is (I (G .closed) (G .preceding)) (setAt alike p) new here H N) none;
+    }
 
     pub row-new : {square′ alike′ next′ active′ : List ℕ} {left more old rows′ : ℕ → Bool} {word : ℕ} → (q : ℕ) × (new q ≡ true)
         → Entered (g .states) square p new (r + 1) square′
@@ -360,8 +363,10 @@ module _ (w : ℕ) {g : Automaton} (p a r : ℕ) (fits : r + 1 < never) (lp : p 
     row-new {left = left} {more} {word = word} some E A ea X ex eo S none R = record {
       goes = λ ends done G F M.
           spread-new G fits lp la F M (I (G .closed) (G .preceding)) (new-is (I (G .closed) (G .preceding)) (setAt alike p) new here H N) E
-          (put-part left (λ q. setAt alike p q && not (new q)) A (λ q e. ea q ∙ rw (H q, e)) (λ q e. rw (new-outside (isPart w) (setAt alike p) new here into H N q e) (sym (and-true (setAt alike p q)))))
-          (put-part more (λ q. setAt next p q || new q) X (λ q e. ex q ∙ rw (eo q, e)) (λ q e. rw (new-outside (isPart w) (setAt alike p) new here into H N q e) (sym (or-false (setAt next p q)))))
+          (put-part left (λ q. setAt alike p q && not (new q)) A (λ q e. ea q ∙ rw (H q, e))
+          (λ q e. rw (new-outside (isPart w) (setAt alike p) new here into H N q e) (sym (and-true (setAt alike p q)))))
+          (put-part more (λ q. setAt next p q || new q) X (λ q e. ex q ∙ rw (eo q, e))
+          (λ q e. rw (new-outside (isPart w) (setAt alike p) new here into H N q e) (sym (or-false (setAt next p q)))))
           R some
           (λ u x t. ⊎-elim inl (λ h. inr (h .1, λ q e. A .here q ∙ gone u q (h .0) e (h .2))) (S .stays u x t));
     }

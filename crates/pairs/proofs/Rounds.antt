@@ -15,7 +15,8 @@ use Rattle.theory.proofs.Below.{clash, not-clash, lt-or-le, or-cases, or-left, 
 use Rattle.state_set.specs.Member.{isPart, setAt, Put}
 use Rattle.state_set.proofs.Words.{words-full}
 use Rattle.pairs.specs.Square.{never, entry}
-use Rattle.pairs.specs.Layers.{Empty, Room, Ground, Layer, Front, Midway, Active, GoesAt, rowDone, setDone, symbolDone, blockDone, stateDone}
+use Rattle.pairs.specs.Layers.{Empty, Room, Ground, Layer, Front, Midway, Active, GoesAt, rowDone, setDone, symbolDone, blockDone, partDone}
+use Rattle.pairs.specs.Layers.{stateDone}
 use Rattle.pairs.proofs.Visit.{lowest-in, lowest-none, stays}
 use Rattle.pairs.proofs.Layers.{kept-rows, retired-done, layer-begins, layer-front, layer-next}
 
@@ -36,7 +37,7 @@ same-then S es ea eo = record { square-same = es ∙ S .square-same; alike-same 
 pub room-same : {n k : ℕ} {sets square₀ alike₀ next₀ active₀ square alike next active : List ℕ} → Room n k square₀ alike₀ next₀ active₀ sets
     → Same square₀ alike₀ next₀ square alike next → length active ≡ length active₀ → Room n k square alike next active sets
 room-same R S e = record {
-  few = R .few;
+  small = R .small;
   rows = rw (S .square-same) (R .rows);
   alike-sets = rw (S .alike-same) (R .alike-sets);
   next-sets = rw (S .other-same) (R .next-sets);
@@ -49,7 +50,7 @@ room-same R S e = record {
 pub room-of : {g : Automaton} {ends : ℕ → ℕ → Bool} {r : ℕ} {sets square alike fresh next active : List ℕ} {rows : ℕ → Bool} → Ground g ends sets
     → Layer g ends r square alike fresh rows → Empty (g .states) next → 4 ≤ length active → Room (g .states) (g .symbols) square alike next active sets
 room-of {g} G L N four = record {
-  few = G .small;
+  small = G .small;
   rows = L .kept .size;
   alike-sets = L .kept .alike-size;
   next-sets = N .size;
@@ -248,46 +249,47 @@ module _ {g : Automaton} (x v w : ℕ) {r : ℕ} {front : ℕ → Bool} {sets sq
       (and-both (eqb (g .next p b) x) (eqb b a) ex (eq-eqb b a (omega (arith, k, l))))))
       (lt-or-le b a))
 
--- ---- all blocks
+-- ---- all parts
 
 -- a state of n is in part 0 where n is at most 64, and else in one of the two
 in-part : (n p : ℕ) → p < n → n ≤ 64 → isPart 0 p ≡ true
 in-part n p l m = eq-eqb (p / 64) 0 (omega (arith, l, m))
 
 in-parts : (n p : ℕ) → p < n → n ≤ stateLimit → (isPart 0 p ≡ true) ⊎ (isPart 1 p ≡ true)
-in-parts n p l m = ⊎-elim (λ (k : p < 64). inl (eq-eqb (p / 64) 0 (omega (arith, k)))) (λ (k : 64 ≤ p). inr (eq-eqb (p / 64) 1 (omega (arith, k, l, m)))) (lt-or-le p 64)
+in-parts n p l m =
+    ⊎-elim
+    (λ (k : p < 64). inl (eq-eqb (p / 64) 0 (omega (arith, k))))
+    (λ (k : 64 ≤ p). inr (eq-eqb (p / 64) 1 (omega (arith, k, l, m))))
+    (lt-or-le p 64)
 
-in-block : (g : Automaton) (x k v w p q b : ℕ) → isPart v p ≡ true → isPart w q ≡ true → stateDone g x k p q b ≡ true
+-- where each part of the states is done, by what a test says of it, all are done
+module _ {g : Automaton} {r x : ℕ} {front : ℕ → Bool} {sets square₀ alike₀ next₀ active₀ : List ℕ} {rows₀ : ℕ → Bool}
+    (each : ℕ → ℕ → ℕ → ℕ → Bool) (all : ℕ → ℕ → ℕ → Bool) (state : ℕ → ℕ → ℕ)
+    (state-in : (p q : ℕ) → p < g .states → q < g .states → state p q < g .states)
+    (in-each : (v p q b : ℕ) → isPart v (state p q) ≡ true → all p q b ≡ true → each v p q b ≡ true) where
+  pub one-part : {square alike next active : List ℕ} {rows : ℕ → Bool} → g .states ≤ 64
+      → GoesAt g r x front (each 0) sets square₀ alike₀ next₀ active₀ rows₀ square alike next active rows
+      → GoesAt g r x front all sets square₀ alike₀ next₀ active₀ rows₀ square alike next active rows
+  one-part few step = goes-less all step (λ p q b lp lq lb t. in-each 0 p q b (in-part (g .states) (state p q) (state-in p q lp lq) few) t)
+
+  pub two-parts : {square alike next active square′ alike′ next′ active′ : List ℕ} {rows rows′ : ℕ → Bool} → g .states ≤ stateLimit
+      → GoesAt g r x front (each 0) sets square₀ alike₀ next₀ active₀ rows₀ square alike next active rows
+      → GoesAt g r x front (each 1) sets square alike next active rows square′ alike′ next′ active′ rows′
+      → GoesAt g r x front all sets square₀ alike₀ next₀ active₀ rows₀ square′ alike′ next′ active′ rows′
+  two-parts few low high = goes-less all (goes-then low high) (λ p q b lp lq lb t. ⊎-elim
+      (λ e. or-left (each 0 p q b) (each 1 p q b) (in-each 0 p q b e t))
+      (λ e. or-right (each 0 p q b) (each 1 p q b) (in-each 1 p q b e t))
+      (in-parts (g .states) (state p q) (state-in p q lp lq) few))
+
+-- the columns of a part, for rows of part v; and the rows of a part
+pub in-columns : (g : Automaton) (x k v w p q b : ℕ) → isPart w q ≡ true → partDone g x (isPart v) k p q b ≡ true
     → blockDone g x (isPart v) (isPart w) k p q b ≡ true
-in-block g x k v w p q b ep eq t = and-both (isPart v p && isPart w q) (stateDone g x k p q b) (and-both (isPart v p) (isPart w q) ep eq) t
+in-columns g x k v w p q b e t =
+    and-both (isPart v p && isPart w q) (stateDone g x k p q b)
+    (and-both (isPart v p) (isPart w q) (and-left (isPart v p) (stateDone g x k p q b) t) e) (and-right (isPart v p) (stateDone g x k p q b) t)
 
-module _ {g : Automaton} (x k : ℕ) {r : ℕ} {front : ℕ → Bool} {sets square₀ alike₀ next₀ active₀ : List ℕ} {rows₀ : ℕ → Bool} where
-  pub one-block : {square alike next active : List ℕ} {rows : ℕ → Bool} → g .states ≤ 64
-      → GoesAt g r x front (blockDone g x (isPart 0) (isPart 0) k) sets square₀ alike₀ next₀ active₀ rows₀ square alike next active rows
-      → GoesAt g r x front (stateDone g x k) sets square₀ alike₀ next₀ active₀ rows₀ square alike next active rows
-  one-block few step =
-      goes-less (stateDone g x k) step (λ p q b lp lq lb t. in-block g x k 0 0 p q b (in-part (g .states) p lp few) (in-part (g .states) q lq few) t)
-
-  pub four-blocks : {square alike next active square′ alike′ next′ active′ square″ alike″ next″ active″ square‴ alike‴ next‴ active‴ : List ℕ}
-      {rows rows′ rows″ rows‴ : ℕ → Bool} → g .states ≤ stateLimit
-      → GoesAt g r x front (blockDone g x (isPart 0) (isPart 0) k) sets square₀ alike₀ next₀ active₀ rows₀ square alike next active rows
-      → GoesAt g r x front (blockDone g x (isPart 0) (isPart 1) k) sets square alike next active rows square′ alike′ next′ active′ rows′
-      → GoesAt g r x front (blockDone g x (isPart 1) (isPart 0) k) sets square′ alike′ next′ active′ rows′ square″ alike″ next″ active″ rows″
-      → GoesAt g r x front (blockDone g x (isPart 1) (isPart 1) k) sets square″ alike″ next″ active″ rows″ square‴ alike‴ next‴ active‴ rows‴
-      → GoesAt g r x front (stateDone g x k) sets square₀ alike₀ next₀ active₀ rows₀ square‴ alike‴ next‴ active‴ rows‴
-  four-blocks few b₀ b₁ b₂ b₃ =
-      goes-less (stateDone g x k) (goes-then (goes-then (goes-then b₀ b₁) b₂) b₃) (λ p q b lp lq lb t.
-      let at : ℕ → ℕ → Bool = λ v w. blockDone g x (isPart v) (isPart w) k p q b in
-      ⊎-elim
-      (λ ep. ⊎-elim
-      (λ eq. or-left ((at 0 0 || at 0 1) || at 1 0) (at 1 1) (or-left (at 0 0 || at 0 1) (at 1 0) (or-left (at 0 0) (at 0 1) (in-block g x k 0 0 p q b ep eq t))))
-      (λ eq. or-left ((at 0 0 || at 0 1) || at 1 0) (at 1 1) (or-left (at 0 0 || at 0 1) (at 1 0) (or-right (at 0 0) (at 0 1) (in-block g x k 0 1 p q b ep eq t))))
-      (in-parts (g .states) q lq few))
-      (λ ep. ⊎-elim
-      (λ eq. or-left ((at 0 0 || at 0 1) || at 1 0) (at 1 1) (or-right (at 0 0 || at 0 1) (at 1 0) (in-block g x k 1 0 p q b ep eq t)))
-      (λ eq. or-right ((at 0 0 || at 0 1) || at 1 0) (at 1 1) (in-block g x k 1 1 p q b ep eq t))
-      (in-parts (g .states) q lq few))
-      (in-parts (g .states) p lp few))
+pub in-rows : (g : Automaton) (x k v p q b : ℕ) → isPart v p ≡ true → stateDone g x k p q b ≡ true → partDone g x (isPart v) k p q b ≡ true
+in-rows g x k v p q b e t = and-both (isPart v p) (stateDone g x k p q b) e t
 
 -- ---- one round
 
@@ -328,19 +330,20 @@ module _ {g : Automaton} {ends : ℕ → ℕ → Bool} {r : ℕ} {square₀ alik
       (S : Spreading g ends r rows left fresh₀ fresh square alike next active found) {x : ℕ} (ex : x ≡ first left 0 stateLimit) where
     module _ (lx : x < stateLimit) where
       row-in : x < g .states
-      row-in = L .kept .rows-some x (S .within x (lowest-in left ex lx)) .0
+      row-in = L .kept .rows-some x (S .within x (lowest-in stateLimit left ex lx)) .0
 
       -- what is read of the fresh states of x, those past the last state left out
       fronted : (all front : ℕ → Bool) → ((q : ℕ) → all q ≡ ltb q (g .states)) → ((q : ℕ) → front q ≡ (setAt fresh x q && all q))
           → (y : ℕ) → front y ≡ setAt fresh₀ x y
       fronted all front ia is y =
-          let e : setAt fresh x y ≡ setAt fresh₀ x y = S .fresh-left x y row-in ∙ rw (lowest-in left ex lx) in
+          let e : setAt fresh x y ≡ setAt fresh₀ x y = S .fresh-left x y row-in ∙ rw (lowest-in stateLimit left ex lx) in
           is y ∙ rw (e, ia y) (⊎-elim
           (λ (l : y < g .states). rw (lt-ltb y (g .states) l) (and-true (setAt fresh₀ x y)))
           (λ l. rw (le-ltb y (g .states) l, L .kept .fresh-is x y row-in, le-ltb y (g .states) l))
           (lt-or-le y (g .states)))
 
-      pub spreading-more : (all : ℕ → Bool) {k : ℕ} {front left′ none : ℕ → Bool} {fresh′ square′ alike′ next′ active′ : List ℕ} {found′ : ℕ → Bool} → g .symbols ≡ k
+      pub spreading-more : (all : ℕ → Bool) {k : ℕ} {front left′ none : ℕ → Bool} {fresh′ square′ alike′ next′ active′ : List ℕ} {found′ : ℕ → Bool} →
+          g .symbols ≡ k
           → ((q : ℕ) → all q ≡ ltb q (g .states)) → ((q : ℕ) → front q ≡ (setAt fresh x q && all q))
           → ((q : ℕ) → none q ≡ false) → Put fresh x none fresh′
           → GoesAt g r x front (stateDone g x k) sets square alike next active found square′ alike′ next′ active′ found′
@@ -357,14 +360,14 @@ module _ {g : Automaton} {ends : ℕ → ℕ → Bool} {r : ℕ} {square₀ alik
             (and-both (eqb (g .next p a) x) (ltb a k) (eq-eqb (g .next p a) x w) (lt-ltb a k (omega (arith, la, ek)))))
             (taken left left′ (λ q. out q ∙ rw (lt-ltb x stateLimit lx, and-true (eqb q x))) (g .next p a) (h .1)));
         size = rw (P .size) (S .size);
-        within = λ z t. S .within z (stays left left′ x out z t);
+        within = λ z t. S .within z (stays left left′ (λ q. eqb q x && ltb x stateLimit) out z t);
         fresh-left = λ z q lz. by z q lz (eqb z x) refl;
       }
         where
           by : (z q : ℕ) → z < g .states → (b : Bool) → eqb z x ≡ b → setAt fresh′ z q ≡ (left′ z && setAt fresh₀ z q)
           by z q lz true h =
               let e = eqb-true z x h in
-              rw e (P .here q ∙ bare q ∙ rw (out x, eq-eqb x x refl, lt-ltb x stateLimit lx, lowest-in left ex lx))
+              rw e (P .here q ∙ bare q ∙ rw (out x, eq-eqb x x refl, lt-ltb x stateLimit lx, lowest-in stateLimit left ex lx))
           by z q lz false h = P .elsewhere z q (eqb-false z x h) ∙ S .fresh-left z q lz ∙ rw (out z, h) (go (left z))
             where
               go : (b : Bool) → (b && setAt fresh₀ z q) ≡ ((b && true) && setAt fresh₀ z q)
@@ -373,7 +376,7 @@ module _ {g : Automaton} {ends : ℕ → ℕ → Bool} {r : ℕ} {square₀ alik
 
     pub spreading-ends : g .states ≤ x → Layer g ends (suc r) square alike next found × Empty (g .states) fresh × Active (g .states) alike active
     spreading-ends l = (
-      layer-next L (G .closed) (S .midway) (λ p q a lp lq la t. keep t (lowest-none left ex l (g .next p a) (G .closed .next-in p a lp la))),
-      record { size = S .size; none = λ z q lz. S .fresh-left z q lz ∙ rw (lowest-none left ex l z lz) },
+      layer-next L (G .closed) (S .midway) (λ p q a lp lq la t. keep t (lowest-none stateLimit left ex l (g .next p a) (G .closed .next-in p a lp la))),
+      record { size = S .size; none = λ z q lz. S .fresh-left z q lz ∙ rw (lowest-none stateLimit left ex l z lz) },
       S .midway .active-rows,
     )

@@ -37,7 +37,7 @@ upTo p a q b = ltb q p || (eqb q p && ltb b a)
 abbrev pub leading : Automaton → ℕ → (ℕ → Bool) → ℕ → Bool
 leading g a set q = ltb q (g .states) && set (g .next q a)
 
--- those of them that pass a test
+-- into has those of them that are of the part
 pub record Into (g : Automaton) (a : ℕ) (part set into : ℕ → Bool) : Type 0 where
   pub at : (q : ℕ) → into q ≡ (part q && leading g a set q)
 
@@ -54,7 +54,7 @@ pub record Entered (n : ℕ) (before : List ℕ) (p : ℕ) (test : ℕ → Bool)
 -- there is room for n states: in the square, in the arrays of sets that a round goes on with, and in that of the
 -- predecessors, which are states themselves
 pub record Room (n k : ℕ) (square alike next active predecessors : List ℕ) : Type 0 where
-  pub few : n ≤ stateLimit
+  pub small : n ≤ stateLimit
   pub rows : HasRows n square
   pub alike-sets : n * 2 ≤ length alike
   pub next-sets : n * 2 ≤ length next
@@ -101,7 +101,7 @@ pub record Front (g : Automaton) (ends : ℕ → ℕ → Bool) (r x : ℕ) (fron
 pub record Active (n : ℕ) (alike active : List ℕ) : Type 0 where
   pub at : (p q : ℕ) → p < n → setAt alike p q ≡ true → setAt active (q / 64) p ≡ true
 
--- row p is out of set w where no state is left, and all else stays
+-- no row is out of its set but p out of set w, and that only where no state is left
 pub record Retired (p w left : ℕ) (before after : List ℕ) : Type 0 where
   pub size : length after ≡ length before
   pub stays : (u x : ℕ) → setAt before u x ≡ true → (setAt after u x ≡ true) ⊎ ((u ≡ w) × (x ≡ p) × (left ≡ 0))
@@ -126,9 +126,9 @@ pub record GoesAt (g : Automaton) (r x : ℕ) (front : ℕ → Bool) (more : ℕ
       → Midway g ends r done square alike next active rows
       → Midway g ends r (λ p q a. done p q a || more p q a) square′ alike′ next′ active′ rows′
 
--- the states of a front are below n
-pub record Fronted (n : ℕ) (front : ℕ → Bool) : Type 0 where
-  pub at : (y : ℕ) → front y ≡ true → y < n
+-- every state of the set is below n
+pub record Within (n : ℕ) (set : ℕ → Bool) : Type 0 where
+  pub at : (y : ℕ) → set y ≡ true → y < n
 
 -- ---- what is done at a time
 
@@ -147,6 +147,10 @@ symbolDone g x rows columns a p q b = (rows p && columns q) && (eqb (g .next p b
 -- some rows that a symbol below k leads to x, in some columns
 abbrev pub blockDone : Automaton → ℕ → (ℕ → Bool) → (ℕ → Bool) → ℕ → ℕ → ℕ → ℕ → Bool
 blockDone g x rows columns k p q b = (rows p && columns q) && (eqb (g .next p b) x && ltb b k)
+
+-- some rows that a symbol below k leads to x
+abbrev pub partDone : Automaton → ℕ → (ℕ → Bool) → ℕ → ℕ → ℕ → ℕ → Bool
+partDone g x rows k p q b = rows p && (eqb (g .next p b) x && ltb b k)
 
 -- all rows that a symbol below k leads to x
 abbrev pub stateDone : Automaton → ℕ → ℕ → ℕ → ℕ → ℕ → Bool

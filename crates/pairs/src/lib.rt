@@ -20,9 +20,10 @@ ghost use Rattle.state_set.specs.Member.{isPart, inPart, member, setAt};
 ghost use Rattle.monitor.specs.Format.{Rows, graph};
 ghost use Rattle.pairs.specs.Square.{never, place, HasRows, entry, Squared, passing, nearer, Falling, apart};
 ghost use Rattle.pairs.specs.Pass.{start, pair};
-ghost use Rattle.pairs.specs.Layers.{Empty, Preceding, upTo, Into, Entered, Room, Active, Fronted, Retired};
+ghost use Rattle.pairs.specs.Layers.{Empty, Preceding, upTo, Into, Entered, Room, Active, Within, Retired};
 ghost use Rattle.pairs.specs.Layers.{Begun, PairBegun, RowDone, Blank, Unused};
-ghost use Rattle.pairs.specs.Layers.{Ground, Layer, GoesAt, rowDone, setDone, symbolDone, blockDone, stateDone};
+ghost use Rattle.pairs.specs.Layers.{Ground, Layer, GoesAt, rowDone, setDone, symbolDone, blockDone, partDone};
+ghost use Rattle.pairs.specs.Layers.{stateDone};
 
 // Not told apart. Any smaller number counts symbols.
 pub const NEVER: usize = 65535;
@@ -120,13 +121,13 @@ fn enter_predecessors(sets: &mut [u64], nexts: &[u8], n: usize, k: usize)
 // ---- the pairs at distance r + 1, from those at r
 //
 // A round goes by blocks: rows of part v and columns of part w, a word for each row. A table of up to 64 states is one
-// block, and its upper words are not looked at.
+// block: of its predecessors, alike and next states only the lower words are looked at.
 
 // The states of part w from which a leads into those of a word of part u, of n states.
 fn leading_into(predecessors: &[u64], n: usize, a: usize, word: u64, u: usize, w: usize) -> u64
     requires { ⌜ (a < symbolLimit)
         × (n * symbolLimit * 2 ≤ length (now predecessors))
-        × Fronted n (inPart u word)
+        × Within n (inPart u word)
         × (u < 2)
         × (w < 2) ⌝ }
     ensures { λ r. ⌜ ((g : Automaton) → g .states ≡ n → a < g .symbols
@@ -234,7 +235,7 @@ fn spread_rows(
         × (n * 2 ≤ length (now alike))
         × (n * 2 ≤ length (now next))
         × (4 ≤ length (now active))
-        × Fronted n (inPart v word)
+        × Within n (inPart v word)
         × (v < 2)
         × (w < 2)
         × (r + 1 < never) ⌝ }
@@ -275,7 +276,7 @@ fn spread_symbol(
     rows: StateSet,
 ) -> StateSet
     requires { ⌜ Room n k (now square) (now alike) (now next) (now active) (now predecessors)
-        × Fronted n (member front)
+        × Within n (member front)
         × (k ≤ symbolLimit)
         × (x < n)
         × (a < k)
@@ -314,7 +315,7 @@ fn spread_block(
     rows: StateSet,
 ) -> StateSet
     requires { ⌜ Room n k (now square) (now alike) (now next) (now active) (now predecessors)
-        × Fronted n (member front)
+        × Within n (member front)
         × (k ≤ symbolLimit)
         × (x < n)
         × (v < 2)
@@ -349,7 +350,68 @@ fn spread_block(
     found
 }
 
-// The same for all rows and columns: one block, or four where there are states of part 1.
+// The same for all columns: one block, or two where there are states of part 1.
+fn spread_columns(
+    square: &mut [u16],
+    alike: &mut [u64],
+    next: &mut [u64],
+    active: &mut [u64],
+    predecessors: &[u64],
+    n: usize,
+    k: usize,
+    x: usize,
+    v: usize,
+    front: StateSet,
+    r: u16,
+    rows: StateSet,
+) -> StateSet
+    requires { ⌜ Room n k (now square) (now alike) (now next) (now active) (now predecessors)
+        × Within n (member front)
+        × (k ≤ symbolLimit)
+        × (x < n)
+        × (v < 2)
+        × (r + 1 < never) ⌝ }
+    ensures { λ after. ⌜ ((g : Automaton) → g .states ≡ n → g .symbols ≡ k
+        → GoesAt g r x (member front) (partDone g x (isPart v) k) (now (predecessors .entry))
+        (now (square .entry)) (now (alike .entry)) (now (next .entry)) (now (active .entry)) (member rows)
+        (now (square .exit)) (now (alike .exit)) (now (next .exit)) (now (active .exit)) (member after)) ⌝ }
+{
+    let found = spread_block(
+        square,
+        alike,
+        next,
+        active,
+        predecessors,
+        n,
+        k,
+        x,
+        v,
+        0,
+        front,
+        r,
+        rows,
+    );
+    if n <= WORD {
+        return found;
+    }
+    spread_block(
+        square,
+        alike,
+        next,
+        active,
+        predecessors,
+        n,
+        k,
+        x,
+        v,
+        1,
+        front,
+        r,
+        found,
+    )
+}
+
+// The same for all rows, of one part or of two.
 fn spread_state(
     square: &mut [u16],
     alike: &mut [u64],
@@ -364,7 +426,7 @@ fn spread_state(
     rows: StateSet,
 ) -> StateSet
     requires { ⌜ Room n k (now square) (now alike) (now next) (now active) (now predecessors)
-        × Fronted n (member front)
+        × Within n (member front)
         × (k ≤ symbolLimit)
         × (x < n)
         × (r + 1 < never) ⌝ }
@@ -373,7 +435,7 @@ fn spread_state(
         (now (square .entry)) (now (alike .entry)) (now (next .entry)) (now (active .entry)) (member rows)
         (now (square .exit)) (now (alike .exit)) (now (next .exit)) (now (active .exit)) (member after)) ⌝ }
 {
-    let one = spread_block(
+    let found = spread_columns(
         square,
         alike,
         next,
@@ -382,31 +444,15 @@ fn spread_state(
         n,
         k,
         x,
-        0,
         0,
         front,
         r,
         rows,
     );
     if n <= WORD {
-        return one;
+        return found;
     }
-    let two = spread_block(
-        square,
-        alike,
-        next,
-        active,
-        predecessors,
-        n,
-        k,
-        x,
-        0,
-        1,
-        front,
-        r,
-        one,
-    );
-    let three = spread_block(
+    spread_columns(
         square,
         alike,
         next,
@@ -416,25 +462,9 @@ fn spread_state(
         k,
         x,
         1,
-        0,
         front,
         r,
-        two,
-    );
-    spread_block(
-        square,
-        alike,
-        next,
-        active,
-        predecessors,
-        n,
-        k,
-        x,
-        1,
-        1,
-        front,
-        r,
-        three,
+        found,
     )
 }
 
@@ -627,8 +657,8 @@ pub fn blank() -> [u16; SQUARE_SIZE]
     [NEVER_ENTRY; SQUARE_SIZE]
 }
 
-// A table of so many states has few: it gets a square of as many rows, and as many sets, since filling the others would
-// take as long as its search.
+// A table of up to so many states has few: its square has as many rows and its arrays as many sets, since to fill the
+// others would take longer than its search.
 pub const FEW: usize = 16;
 
 // The rows of the square for few states, filled.

@@ -118,7 +118,11 @@ pub set-written : (words : List ℕ) (i low high : ℕ) → i * 2 + 1 < length w
 set-written words i low high l h = record {
   size = length-set (set words (i * 2) low) (i * 2 + 1) high ∙ length-set words (i * 2) low;
   here = λ q. rw (at-low, at-high) (words-below low high q h);
-  elsewhere = λ j q ne. rw (other (j * 2) (λ e. ne (omega (arith, e))) (λ e. omega (arith, e)), other (j * 2 + 1) (λ e. omega (arith, e)) (λ e. ne (omega (arith, e))));
+  elsewhere = λ j q ne. rw (
+    other (j * 2) (λ e. ne (omega (arith, e))) (λ e. omega (arith, e)),
+    other (j * 2 + 1) (λ e. omega (arith, e))
+        (λ e. ne (omega (arith, e))),
+  );
 }
   where
     at-low : getD (set (set words (i * 2) low) (i * 2 + 1) high) (i * 2) 0 ≡ low

@@ -6,6 +6,7 @@ use Prim.Native.Nat.{ℕ, _+_, _-_, _*_, _/_, _%_, _^_}
 use lib.Dec.{eqb, ltb}
 use lib.Count.{trailingZeros}
 use lib.ListN.{length, getD}
+use Rattle.theory.specs.Monitor.{stateLimit}
 use Rattle.state_set.specs.declared.StateSet.{StateSet}
 
 -- bit q of a word is set
@@ -16,6 +17,7 @@ inWord word q = eqb (word / 2 ^ q % 2) 1
 unfoldable pub inWords : ℕ → ℕ → ℕ → Bool
 inWords low high q = cond (ltb q 64) (inWord low q) (inWord high (q - 64))
 
+-- state q is in the set
 unfoldable pub member : StateSet → ℕ → Bool
 member s q = inWords (s .low) (s .high) q
 
@@ -39,7 +41,7 @@ pub record Exactly (n : ℕ) (f : ℕ → Bool) (s : StateSet) : Type 0 where
 
 -- state q is in set i
 abbrev pub setAt : List ℕ → ℕ → ℕ → Bool
-setAt words i q = ltb q 128 && inWords (getD words (i * 2) 0) (getD words (i * 2 + 1) 0) q
+setAt words i q = ltb q stateLimit && inWords (getD words (i * 2) 0) (getD words (i * 2 + 1) 0) q
 
 -- set i became that of the states that pass the test
 pub record Put (before : List ℕ) (i : ℕ) (test : ℕ → Bool) (after : List ℕ) : Type 0 where

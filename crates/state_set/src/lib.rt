@@ -9,7 +9,7 @@ ghost use Rattle.theory.specs.Below.{count, first};
 ghost use Rattle.theory.specs.Monitor.{stateLimit};
 ghost use Rattle.state_set.specs.Member.{isPart, inPart, lowestIn, member, setAt, Put, PutPart};
 
-// The words of a set, and the states of a word.
+// How many words a set has, and how many states a word.
 pub const WORDS: usize = 2;
 
 pub const WORD: usize = 64;

@@ -190,8 +190,6 @@ count-from (suc n) f g h = rw (h n, count-from n f g h) (swap (g n) (f 0) (count
     swap false true t = refl
     swap false false t = refl
 
--- ---- first
-
 -- the numbers from m on, counted from 0
 pub count-joined : (m n : ℕ) (f g : ℕ → Bool) → ((i : ℕ) → f (m + i) ≡ g i) → count (m + n) f ≡ count m f + count n g
 unfolding count
@@ -201,6 +199,8 @@ count-joined m (suc n) f g h = (let e : m + suc n ≡ suc (m + n) = omega arith 
     go : (b : Bool) → cond b (suc (count m f + count n g)) (count m f + count n g) ≡ count m f + cond b (suc (count n g)) (count n g)
     go true = omega arith
     go false = refl
+
+-- ---- first
 
 -- a scan that passed over every number from a up to i, and stopped at the end or at a number that passes, has found the first
 pub first-is : (f : ℕ → Bool) (c a i : ℕ) → a ≤ i → i ≤ a + c → ((j : ℕ) → a ≤ j → j < i → f j ≡ false) → (i < a + c → f i ≡ true) → first f a c ≡ i
@@ -270,7 +270,8 @@ first-whole f c e l = omega (arith, first-le f 0 c)
 
 -- of m + n numbers: one of the first m, or else one of the others, counted from 0
 pub first-lower : (m n : ℕ) (f : ℕ → Bool) → first f 0 m < m → first f 0 (m + n) ≡ first f 0 m
-first-lower m n f l = first-is f (m + n) 0 (first f 0 m) zero-le (omega (arith, l)) (λ j a b. first-below f 0 m j a b) (λ _. first-here f 0 m (omega (arith, l)))
+first-lower m n f l = first-is f (m + n) 0 (first f 0 m) zero-le (omega (arith, l)) (λ j a b. first-below f 0 m j a b)
+    (λ _. first-here f 0 m (omega (arith, l)))
 
 pub first-upper : (m n : ℕ) (f g : ℕ → Bool) → ((i : ℕ) → f (m + i) ≡ g i) → ((i : ℕ) → i < m → f i ≡ false) → first f 0 (m + n) ≡ m + first g 0 n
 first-upper m n f g h none =

@@ -171,7 +171,7 @@ pub fn find_first(
     Outcome::Found(witness_of(marks, outputs, square, &costs, &totals, nexts, t, set, area))
 }
 
-// The first witness of a table under a reading and a test, with a square that is filled.
+// The first witness of a table under a reading and a test, in a blank square.
 fn search_in(
     square: &mut [u16],
     marks: &[u8],

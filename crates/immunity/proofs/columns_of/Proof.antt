@@ -33,8 +33,11 @@ column-of-requires-2 c κs =
 
 loop-again : tie.Need-loop-again Inv-loop μ-loop
 loop-again c =
-    let at = c .before .before .before .before .before .loop in
-    (filled-more _ (at .inv .0) (c .before .before .before .before .loop-test .taken) (c .before .before .column-of2 .ensures), c .before .area2 .given ∙ at .inv .1)
+    let at = c .before .before .before .before .before .loop in (
+      filled-more _ (at .inv .0) (c .before .before .before .before .loop-test .taken) (c .before .before .column-of2 .ensures),
+      c .before .area2 .given ∙
+          at .inv .1,
+    )
 
 same-length : tie.Need-same-length Inv-loop μ-loop
 same-length c = c .before .loop .inv .1 ∙ c .before .before .before .area .given

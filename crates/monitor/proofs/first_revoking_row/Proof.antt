@@ -18,7 +18,8 @@ abbrev μ-loop : tie.MeasureT-loop
 μ-loop marks nexts k q end mark i₀ i = end - i
 
 -- the row lies in the next states, and they are few
-row-in : (s : tie.Start Inv-loop μ-loop) → (s .args .q * s .args .k + s .args .k ≤ length (s .args .nexts .now)) × (length (s .args .nexts .now) ≤ stateLimit * symbolLimit)
+row-in : (s : tie.Start Inv-loop μ-loop) → (s .args .q * s .args .k + s .args .k ≤ length (s .args .nexts .now)) ×
+    (length (s .args .nexts .now) ≤ stateLimit * symbolLimit)
 row-in s = (row-end (s .pre .0) (s .pre .1), rows-most (s .pre .0))
 
 returns : tie.Need-returns Inv-loop μ-loop

@@ -4,6 +4,7 @@ use Prim.Native.Nat.{_-_, _≤_}
 use native.Mathlib.Omega.{arith}
 use borrow.Author.Needs.{needs}
 use Rattle.state_set.specs.Member.{member}
+use Rattle.theory.specs.Monitor.{stateLimit}
 use Rattle.pairs.proofs.Gather.{Below, below-none, below-more}
 use Rattle.pairs.proofs.all_below.Statement.{statement}
 use Rattle.pairs.proofs.all_below.Tie as tie
@@ -21,7 +22,7 @@ loop-again : tie.Need-loop-again Inv-loop μ-loop
 loop-again c =
     let l = c .before .before .before .before .pre in
     let t = c .before .loop-test .taken in
-    (search needs, below-more (c .before .before .loop .inv .1) (omega (arith, l, t)) (c .with .ensures))
+    (search needs, below-more stateLimit (c .before .before .loop .inv .1) (omega (arith, l, t)) (c .with .ensures))
 
 returns : tie.Need-returns Inv-loop μ-loop
 returns c =

@@ -90,7 +90,8 @@ loop-again c =
         alike-same = c .before .before .alike .given ∙ same .alike-same;
         other-same = c₅ .before .before .before .before .fresh .given ∙ same .other-same;
       },
-      walking-down (c₁₅ .before .before .loop .inv .1) (c₁₅ .if1 .taken) (c .next-pair .ensures) (pre .0) (c₁₀ .before .before .begin-pair .ensures) (c₅ .before .if2 .taken)
+      walking-down (c₁₅ .before .before .loop .inv .1) (c₁₅ .if1 .taken) (c .next-pair .ensures) (pre .0) (c₁₀ .before .before .begin-pair .ensures)
+          (c₅ .before .if2 .taken)
           (c .before .before .before .end-row .ensures _ (pre .1)),
     )
 
@@ -118,7 +119,8 @@ loop-again-2 c =
         alike-same = same .alike-same;
         other-same = c .before .before .before .before .fresh .given ∙ same .other-same;
       },
-      walking-along (c₁₀ .before .before .loop .inv .1) (c₁₀ .if1 .taken) (c .next-pair2 .ensures) (c₁₅ .before .before .before .before .pre .0) (c₅ .before .before .begin-pair .ensures) (c .before .if2 .left),
+      walking-along (c₁₀ .before .before .loop .inv .1) (c₁₀ .if1 .taken) (c .next-pair2 .ensures) (c₁₅ .before .before .before .before .pre .0)
+          (c₅ .before .before .begin-pair .ensures) (c .before .if2 .left),
     )
 
 same-length : tie.Need-same-length Inv-loop μ-loop

@@ -44,7 +44,8 @@ loop-again c =
     let put = c .before .before .write .ensures in (
       search needs,
       put .size ∙ at .inv .1,
-      preceding-more (p .0 .symbols-most) (x .ensures .1) (c₅ .before .before .before .loop-test .taken) (omega (arith, p .1, p .0 .states-most)) (x .ensures .0) (at .inv .2)
+      preceding-more (p .0 .symbols-most) (x .ensures .1) (c₅ .before .before .before .loop-test .taken) (omega (arith, p .1, p .0 .states-most))
+          (x .ensures .0) (at .inv .2)
           (put-as _ _ put (λ q. c .before .before .before .before .with .ensures q ∙ rw (c₅ .read .ensures q))),
     )
 

@@ -35,7 +35,8 @@ abbrev μ-loop : tie.MeasureT-loop
 μ-loop square₀ alike₀ fresh₀ next₀ sets nexts n k outputs all active₀ rows₀ r₀ square alike fresh next active rows r = n * n + 4 - r
 
 enter-predecessors-requires : tie.Need-enter-predecessors-requires Inv-loop μ-loop
-enter-predecessors-requires c κs = (let p = c .before .before .before .before .before .before .before .before .pre in (p .2, preceding-none (p .1 .predecessors-none) (p .2 .symbols-most)))
+enter-predecessors-requires c κs = (let p = c .before .before .before .before .before .before .before .before .pre in
+    (p .2, preceding-none (p .1 .predecessors-none) (p .2 .symbols-most)))
 
 all-below-requires : tie.Need-all-below-requires Inv-loop μ-loop
 all-below-requires c κs =
@@ -90,8 +91,13 @@ spread-requires c κs =
     let c₃₀ = c₂₀ .before .before .before .before .before .before .before .before .before .before in
     let rows = c₃₀ .before .pre .2 in
     let at = c .before .before .before .before .before .before .before .before .loop .inv in
-    let l = few _ (rows .states-most) (at .0) in
-    (room-of (at .1) (at .2) (at .3) (omega (arith, at .6)), at .2 .kept .fresh-size, rows .symbols-most, c₁₀ .before .before .before .before .before .before .before .before .before .all-below .ensures, omega (arith, l))
+    let l = few _ (rows .states-most) (at .0) in (
+      room-of (at .1) (at .2) (at .3) (omega (arith, at .6)),
+      at .2 .kept .fresh-size,
+      rows .symbols-most,
+      c₁₀ .before .before .before .before .before .before .before .before .before .all-below .ensures,
+      omega (arith, l),
+    )
 
 add-spread : tie.Need-add-spread Inv-loop μ-loop
 add-spread c =
@@ -99,7 +105,8 @@ add-spread c =
     let c₂₀ = c₁₀ .before .before .before .before .before .before .before .before .before .before in
     let c₃₀ = c₂₀ .before .before .before .before .before .before .before .before .before .before in
     let c₄₀ = c₃₀ .before .before .before .before .before .before .before .before .before .before in
-    (let l = few _ (c₄₀ .before .before .before .before .before .before .before .pre .2 .states-most) (c₂₀ .before .before .before .before .loop .inv .0) in omega (arith, l))
+    (let l = few _ (c₄₀ .before .before .before .before .before .before .before .pre .2 .states-most) (c₂₀ .before .before .before .before .loop .inv .0) in
+    omega (arith, l))
 
 spread-requires-2 : tie.Need-spread-requires-2 Inv-loop μ-loop
 spread-requires-2 c κs =
@@ -110,8 +117,13 @@ spread-requires-2 c κs =
     let rows = c₄₀ .before .before .before .before .before .before .before .pre .2 in
     let at = c₂₀ .before .before .before .before .loop .inv in
     let l = few _ (rows .states-most) (at .0) in
-    let once = c₁₀ .before .before .before .before .before .spread .ensures _ _ refl refl (at .1) (at .3) (at .7) (at .2) in
-    (room-of (at .1) (once .0) (once .1) (omega (arith, c .before .before .before .before .before .before .active2 .given, at .6)), once .0 .kept .fresh-size, rows .symbols-most, c₃₀ .before .before .before .before .before .all-below .ensures, omega (arith, l))
+    let once = c₁₀ .before .before .before .before .before .spread .ensures _ _ refl refl (at .1) (at .3) (at .7) (at .2) in (
+      room-of (at .1) (once .0) (once .1) (omega (arith, c .before .before .before .before .before .before .active2 .given, at .6)),
+      once .0 .kept .fresh-size,
+      rows .symbols-most,
+      c₃₀ .before .before .before .before .before .all-below .ensures,
+      omega (arith, l),
+    )
 
 add-r : tie.Need-add-r Inv-loop μ-loop
 add-r c =
@@ -120,7 +132,8 @@ add-r c =
     let c₃₀ = c₂₀ .before .before .before .before .before .before .before .before .before .before in
     let c₄₀ = c₃₀ .before .before .before .before .before .before .before .before .before .before in
     let c₅₀ = c₄₀ .before .before .before .before .before .before .before .before .before .before in
-    (let l = few _ (c₅₀ .before .before .before .before .before .before .before .pre .2 .states-most) (c₃₀ .before .before .before .before .loop .inv .0) in omega (arith, l))
+    (let l = few _ (c₅₀ .before .before .before .before .before .before .before .pre .2 .states-most) (c₃₀ .before .before .before .before .loop .inv .0) in
+    omega (arith, l))
 
 loop-less : tie.Need-loop-less Inv-loop μ-loop
 loop-less c =
@@ -138,11 +151,12 @@ loop-again c =
     let c₅₀ = c₄₀ .before .before .before .before .before .before .before .before .before .before in
     let s = c₅₀ .before .before .before .before .before .before .before in
     let at = c₃₀ .before .before .before .before .loop in
-    let fresh = empty-some _ (c₃₀ .before .before .before .is-empty .ensures) (not-true _ (c₃₀ .before .before .if1 .taken)) in
+    let fresh = empty-some stateLimit _ (c₃₀ .before .before .before .is-empty .ensures) (not-true _ (c₃₀ .before .before .if1 .taken)) in
     let early = layer-early (at .inv .2) (at .inv .1 .closed) (fresh .0) (fresh .2) in
     let g = automatonOf (s .args .n) (s .args .k) (s .args .nexts .now) in
     let once = c₂₀ .before .before .before .before .before .spread .ensures g _ refl refl (at .inv .1) (at .inv .3) (at .inv .7) (at .inv .2) in
-    let twice = c .before .before .before .before .before .before .before .before .before .spread2 .ensures g _ refl refl (at .inv .1) (once .1) (once .2) (rw (add-one (at .r)) (once .0)) in
+    let twice = c .before .before .before .before .before .before .before .before .before .spread2 .ensures g _ refl refl (at .inv .1) (once .1) (once .2)
+    (rw (add-one (at .r)) (once .0)) in
     let two : suc (at .r + 1) ≡ at .r + 2 = omega arith in
     let same = at .inv .4 in (
       omega (arith, early),
@@ -150,7 +164,8 @@ loop-again c =
       rw two at (twice .0),
       twice .1,
       record {
-        square-same = c .before .before .before .before .before .before .before .before .square3 .given ∙ c₂₀ .before .before .before .before .square2 .given ∙ same .square-same;
+        square-same = c .before .before .before .before .before .before .before .before .square3 .given ∙ c₂₀ .before .before .before .before .square2 .given
+            ∙ same .square-same;
         alike-same = c .before .before .before .before .before .before .alike3 .given ∙ c₂₀ .before .before .alike2 .given ∙ same .alike-same;
         other-same = c .before .before .fresh3 .given ∙ c₂₀ .fresh2 .given ∙ same .other-same;
       },
@@ -178,7 +193,7 @@ returns c =
     let p = c₂₀ .before .before .before .before .before .pre in
     let at = c .before .before .loop in
     let small = p .2 .states-most in
-    let none = empty-none _ (c .before .is-empty .ensures) (not-false _ (c .if1 .left)) in
+    let none = empty-none stateLimit _ (c .before .is-empty .ensures) (not-false _ (c .if1 .left)) in
     let l = few _ small (at .inv .0) in
     squared-same (next-of-rows (p .2)) (begun-passing (p .3) (c .before .before .before .before .before .before .before .before .before .begin .ensures))
     (layer-last (at .inv .2) (next-of-rows (p .2)) (λ p lp. none p (omega (arith, lp, small))) (omega (arith, l)))
@@ -187,4 +202,5 @@ pub enter-rounds-spec : {M : Type 1} → statement M
 enter-rounds-spec =
     tie.close (tie.spec
     Inv-loop μ-loop enter-predecessors-requires all-below-requires begin-requires loop-holds (λ c κs. search needs) (λ c. search needs) spread-requires
-    (λ c. search needs) add-spread spread-requires-2 add-r loop-less loop-again same-length same-length-2 same-length-3 same-length-4 (λ c. search needs) returns)
+    (λ c. search needs) add-spread spread-requires-2 add-r loop-less loop-again same-length same-length-2 same-length-3 same-length-4 (λ c. search needs)
+    returns)

@@ -3,13 +3,13 @@ use mathlib.Core.Path.{_≡_}
 use mathlib.Core.Bool.{true}
 use Prim.Native.Nat.{ℕ, _<_}
 use native.Mathlib.Omega.{arith}
-use lib.Dec.{ltb}
+use lib.Dec.{eqb, ltb}
 use borrow.Author.Needs.{needs}
 use Rattle.theory.specs.Automaton.{Automaton}
 use Rattle.state_set.specs.Member.{isPart, inPart}
 use Rattle.state_set.proofs.Words.{part-none, part-or}
 use Rattle.pairs.specs.Layers.{Preceding}
-use Rattle.pairs.proofs.Visit.{word-none, word-rest, word-stays}
+use Rattle.pairs.proofs.Visit.{stays, word-none, word-rest}
 use Rattle.pairs.proofs.Gather.{Gathering, gathering-none, gathering-more, gathering-all}
 use Rattle.pairs.proofs.leading_into.Statement.{statement}
 use Rattle.pairs.proofs.leading_into.Tie as tie
@@ -48,7 +48,7 @@ loop-again c =
     let u = c .before .before .before .before .before .before .args .u in
     let low = c .before .before .lowest-of in
     let rest = word-rest u (at .left) (c .without-lowest .result) (low .result) (low .ensures .0) (c .without-lowest .ensures .0 u) in (
-      λ q t. at .inv .0 q (word-stays (inPart u (at .left)) (inPart u (c .without-lowest .result)) (low .result) rest q t),
+      λ q t. at .inv .0 q (stays (inPart u (at .left)) (inPart u (c .without-lowest .result)) (λ x. eqb x (low .result)) rest q t),
       λ g e la P. gathering-more (at .inv .1 g e la P) P la (low .ensures .1 .0)
           (let l = p .2 .at _ (at .inv .0 _ (low .ensures .1 .0)) in omega (arith, l, e))
           (c .before .word-at .ensures) (part-or _ _ _) rest,

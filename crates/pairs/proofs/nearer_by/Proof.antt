@@ -31,7 +31,8 @@ returns c =
     let o = c₅ .before .before .before .args in
     scan-finds (c₅ .loop .inv)
     (leads-as (automatonOf (o .n) (o .k) (now (o .nexts))) (now (o .square)) (o .distance) (o .p) (o .q) _
-    (c .before .before .before .successor .ensures .0) (c .before .before .successor2 .ensures .0) (c .before .entry-at .ensures .0) (eq-eqb _ _ (c .if1 .taken)))
+    (c .before .before .before .successor .ensures .0) (c .before .before .successor2 .ensures .0) (c .before .entry-at .ensures .0)
+    (eq-eqb _ _ (c .if1 .taken)))
 
 loop-again : tie.Need-loop-again Inv-loop μ-loop
 loop-again c =
@@ -39,7 +40,8 @@ loop-again c =
     let o = c₅ .before .before .before .args in
     scan-goes-on (c₅ .loop .inv) (omega arith)
     (leads-as (automatonOf (o .n) (o .k) (now (o .nexts))) (now (o .square)) (o .distance) (o .p) (o .q) _
-    (c .before .before .before .successor .ensures .0) (c .before .before .successor2 .ensures .0) (c .before .entry-at .ensures .0) (ne-eqb _ _ (c .if1 .left)))
+    (c .before .before .before .successor .ensures .0) (c .before .before .successor2 .ensures .0) (c .before .entry-at .ensures .0)
+    (ne-eqb _ _ (c .if1 .left)))
 
 returns-2 : tie.Need-returns-2 Inv-loop μ-loop
 returns-2 c = scan-ends (c .before .loop .inv) (omega arith)

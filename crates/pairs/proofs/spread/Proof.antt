@@ -62,7 +62,8 @@ read-requires c κs =
 write-requires : tie.Need-write-requires Inv-loop μ-loop
 write-requires c κs =
     let c₁₀ = c .before .before .before .before .before .before .before .before .before .before in
-    (let f = c .before .before .before .before .before .before .before .loop .inv .1 in omega (arith, c₁₀ .before .before .before .before .before .pre .1, f, c .before .before .before .before .before .if1 .left))
+    (let f = c .before .before .before .before .before .before .before .loop .inv .1 in
+    omega (arith, c₁₀ .before .before .before .before .before .pre .1, f, c .before .before .before .before .before .if1 .left))
 
 spread-state-requires : tie.Need-spread-state-requires Inv-loop μ-loop
 spread-state-requires c κs =
@@ -71,7 +72,10 @@ spread-state-requires c κs =
     let p = c₂₀ .before .before .pre in
     let at = c₁₀ .before .before .before .before .loop .inv in (
       room-same (p .0) (at .0) (at .2),
-      record { at = λ y t. ltb-true y _ (sym (p .3 y) ∙ and-right (member (c₁₀ .read .result) y) _ (sym (c .before .before .before .before .before .before .before .before .before .intersection .ensures y) ∙ t)) },
+      record {
+        at = λ y t. ltb-true y _ (sym (p .3 y) ∙ and-right (member (c₁₀ .read .result) y) _
+            (sym (c .before .before .before .before .before .before .before .before .before .intersection .ensures y) ∙ t));
+      },
       p .2,
       omega (arith, c₁₀ .before .before .if1 .left),
       p .4,
@@ -82,7 +86,8 @@ loop-less c =
     let c₁₀ = c .before .before .before .before .before .before .before .before .before .before in
     let c₂₀ = c₁₀ .before .before .before .before .before .before .before .before .before .before in
     let c₃₀ = c₂₀ .before .before .before .before .before .before .before .before .before .before in
-    lowest-less _ _ (c₂₀ .before .before .before .lowest .ensures) (omega (arith, c₂₀ .before .before .if1 .left, c₃₀ .before .before .pre .0 .few)) (c .without .ensures)
+    lowest-less stateLimit _ _ (c₂₀ .before .before .before .lowest .ensures)
+    (omega (arith, c₂₀ .before .before .if1 .left, c₃₀ .before .before .pre .0 .small)) (c .without .ensures)
 
 loop-again : tie.Need-loop-again Inv-loop μ-loop
 loop-again c =
@@ -92,12 +97,16 @@ loop-again c =
     let p = c₃₀ .before .before .pre in
     let at = c₂₀ .before .before .before .before .loop in
     let read = c₂₀ .read .ensures in (
-      same-then (at .inv .0) (c .before .before .before .before .before .before .before .before .square .given) (c .before .before .before .before .before .before .alike .given) (c .before .before .before .before .next .given),
+      same-then (at .inv .0) (c .before .before .before .before .before .before .before .before .square .given)
+          (c .before .before .before .before .before .before .alike .given) (c .before .before .before .before .next .given),
       c₁₀ .before .before .before .before .before .fresh .given ∙ at .inv .1,
       c .before .before .active .given ∙ at .inv .2,
       λ g ends e ek G N A L. spreading-more G L (at .inv .3 g ends e ek G N A L) (c₂₀ .before .before .before .lowest .ensures)
-          (omega (arith, c₂₀ .before .before .if1 .left, p .0 .few)) (member (c₃₀ .before .before .args .all)) ek (rw e (p .3)) (λ q. c₁₀ .before .before .before .before .before .before .before .before .before .intersection .ensures q ∙ rw (read q))
-          (c₁₀ .before .before .before .before .before .before .before .before .empty2 .ensures) (c₁₀ .before .before .before .before .before .before .write .ensures) (c .before .before .before .before .before .before .before .before .before .spread-state .ensures g e ek) (c .without .ensures),
+          (omega (arith, c₂₀ .before .before .if1 .left, p .0 .small)) (member (c₃₀ .before .before .args .all)) ek (rw e (p .3))
+          (λ q. c₁₀ .before .before .before .before .before .before .before .before .before .intersection .ensures q ∙ rw (read q))
+          (c₁₀ .before .before .before .before .before .before .before .before .empty2 .ensures)
+          (c₁₀ .before .before .before .before .before .before .write .ensures)
+          (c .before .before .before .before .before .before .before .before .before .spread-state .ensures g e ek) (c .without .ensures),
     )
 
 pub spread-spec : {M : Type 1} → statement M

@@ -37,9 +37,11 @@ loop-again c =
     let at = c₁₀ .before .before .before .before .loop in
     let s = c₁₀ .before .before .before .before .before .before .before .before .before .before .args in (
       search needs,
-      same-then (at .inv .1) (c .before .before .before .before .before .before .before .square .given) (c .before .before .before .before .before .alike .given) (c .before .before .before .next .given),
+      same-then (at .inv .1) (c .before .before .before .before .before .before .before .square .given)
+          (c .before .before .before .before .before .alike .given) (c .before .before .before .next .given),
       c .before .active .given ∙ at .inv .2,
-      λ g e ek. block-more (s .x) (s .v) (s .w) (at .a) (at .inv .3 g e ek) (c .before .before .before .before .before .before .before .before .spread-symbol .ensures g e ek),
+      λ g e ek. block-more (s .x) (s .v) (s .w) (at .a) (at .inv .3 g e ek)
+          (c .before .before .before .before .before .before .before .before .spread-symbol .ensures g e ek),
     )
 
 same-length : tie.Need-same-length Inv-loop μ-loop

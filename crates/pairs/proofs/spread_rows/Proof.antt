@@ -4,13 +4,13 @@ use mathlib.Core.Bool.{Bool, true}
 use mathlib.Core.List.{List}
 use Prim.Native.Nat.{ℕ, _+_, _*_, _<_}
 use native.Mathlib.Omega.{arith}
-use lib.Dec.{ltb}
+use lib.Dec.{eqb, ltb}
 use lib.ListN.{length}
 use Rattle.theory.specs.Automaton.{Automaton, Closed}
 use Rattle.theory.specs.Monitor.{symbolLimit}
 use Rattle.state_set.specs.Member.{isPart, inPart, member, setAt}
 use Rattle.pairs.specs.Layers.{Preceding, Into, GoesAt, setDone}
-use Rattle.pairs.proofs.Visit.{word-none, word-rest, word-stays}
+use Rattle.pairs.proofs.Visit.{stays, word-none, word-rest}
 use Rattle.pairs.proofs.Rounds.{Same, same-first, same-then, butLeft, set-begins, set-more, set-ends}
 use Rattle.pairs.proofs.spread_rows.Statement.{statement}
 use Rattle.pairs.proofs.spread_rows.Tie as tie
@@ -45,7 +45,10 @@ spread-row-requires c κs =
     (p .0, rw (same .square-same) (p .1), rw (same .alike-same) (p .2), rw (same .other-same) (p .3), rw (at .1) (p .4), l, p .7, p .8)
 
 without-lowest-requires : tie.Need-without-lowest-requires Inv-loop μ-loop
-without-lowest-requires c κs = omega (arith, c .before .before .before .before .before .before .before .before .before .before .before .before .before .before .loop-test .taken)
+without-lowest-requires c κs = omega (
+  arith,
+  c .before .before .before .before .before .before .before .before .before .before .before .before .before .before .loop-test .taken,
+)
 
 loop-less : tie.Need-loop-less Inv-loop μ-loop
 loop-less c = c .without-lowest .ensures .1
@@ -57,12 +60,14 @@ loop-again c =
     let s = c₁₀ .before .before .before .before .before .before .before .before .before .before .before .args in
     let low = c₁₀ .before .before .before .before .lowest-of in
     let rest = word-rest (s .v) (at .left) (c .without-lowest .result) (low .result) (low .ensures .0) (c .without-lowest .ensures .0 (s .v)) in (
-      same-then (at .inv .0) (c .before .before .before .before .before .before .before .before .square .given) (c .before .before .before .before .before .before .alike .given) (c .before .before .before .before .next .given),
+      same-then (at .inv .0) (c .before .before .before .before .before .before .before .before .square .given)
+          (c .before .before .before .before .before .before .alike .given) (c .before .before .before .before .next .given),
       c .before .before .active .given ∙ at .inv .1,
-      λ q t. at .inv .2 q (word-stays (inPart (s .v) (at .left)) (inPart (s .v) (c .without-lowest .result)) (low .result) rest q t),
+      λ q t. at .inv .2 q (stays (inPart (s .v) (at .left)) (inPart (s .v) (c .without-lowest .result)) (λ x. eqb x (low .result)) rest q t),
       λ g x a front sets e lx la into inside. set-more x a (isPart (s .w)) (inPart (s .v) (s .word)) (inPart (s .v) (at .left))
           (inPart (s .v) (c .without-lowest .result)) (low .result) (inside _ (at .inv .2 _ (low .ensures .1 .0))) lx la rest
-          (at .inv .3 g x a front sets e lx la into inside) (c .before .before .before .before .before .before .before .before .before .spread-row .ensures g a front sets e la into),
+          (at .inv .3 g x a front sets e lx la into inside) (c .before .before .before .before .before .before .before .before .before .spread-row .ensures g
+          a front sets e la into),
     )
 
 same-length : tie.Need-same-length Inv-loop μ-loop

@@ -58,7 +58,7 @@ spread-rows-requires c κs =
     let v = s .args .v in
     let leading = c₁₀ .before .word-at in
     let active = c .before .before .before .before .before .before .before .before .before .word-at2 in (
-      room .few,
+      room .small,
       room .rows,
       room .alike-sets,
       room .next-sets,
@@ -91,11 +91,12 @@ returns-2 c =
     λ g e ek.
     let lx : x < g .states = omega (arith, e, s .pre .3) in
     let la : a < g .symbols = omega (arith, ek, s .pre .4) in
-    let few = s .pre .0 .few in
+    let few = s .pre .0 .small in
     symbol-done x a v w (inPart v (bitAnd (leading .result) (active .result))) lx la
     (λ p. both p ∙ rw (leading .ensures p, active .ensures p))
     (c .before .before .before .before .before .before .before .before .spread-rows .ensures g x a (member front) (s .args .predecessors .now) e lx la
-    (λ closed P. into-both closed la (omega (arith, e, few)) (c₁₀ .before .before .before .before .before .before .low .ensures) (c₁₀ .before .before .before .before .high .ensures)
+    (λ closed P. into-both closed la (omega (arith, e, few)) (c₁₀ .before .before .before .before .before .before .low .ensures)
+    (c₁₀ .before .before .before .before .high .ensures)
     (part-or w (low .result) (high .result)) (low .ensures g e la P closed) (high .ensures g e la P closed))
     (λ p t. and-right (isPart v p) (setAt (s .args .predecessors .now) (x * symbolLimit + a) p)
     (sym (leading .ensures p) ∙ and-left (inPart v (leading .result) p) (inPart v (active .result) p) (sym (both p) ∙ t))))

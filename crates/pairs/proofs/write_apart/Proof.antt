@@ -56,7 +56,8 @@ loop-again : tie.Need-loop-again Inv-loop μ-loop
 loop-again c =
     let c₅ = c .before .before .before .before .before in
     let s = c₅ .before .before .before .before .pre in
-    walk-goes-on (c .before .before .before .before .loop .inv) (s .2) (c .before .before .before .loop-test .taken) (next-of-rows (s .0)) (c .before .before .nearer-by .ensures) (c .before .successor .ensures .0) (c .successor2 .ensures .0)
+    walk-goes-on (c .before .before .before .before .loop .inv) (s .2) (c .before .before .before .loop-test .taken) (next-of-rows (s .0))
+    (c .before .before .nearer-by .ensures) (c .before .successor .ensures .0) (c .successor2 .ensures .0)
 
 same-length : tie.Need-same-length Inv-loop μ-loop
 same-length c = walk-length (c .before .loop .inv)

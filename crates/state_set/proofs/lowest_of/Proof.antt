@@ -13,7 +13,14 @@ add-result : tie.Need-add-result
 add-result c = omega (arith, trailing-le 64 (c .args .word), c .pre .0)
 
 returns : tie.Need-returns
-returns c = (search needs, (lowest-at (c .args .w) (c .args .word) (omega arith) (c .pre .1), lowest-below (c .args .w) (c .args .word) (c .pre .0) (omega arith) (c .pre .1)))
+returns c = (
+  search needs,
+  (
+    lowest-at (c .args .w) (c .args .word) (omega arith) (c .pre .1),
+    lowest-below (c .args .w) (c .args .word) (c .pre .0)
+        (omega arith) (c .pre .1),
+  ),
+)
 
 pub lowest-of-spec : {M : Type 1} → statement M
 lowest-of-spec = tie.close (tie.spec cast-result (λ c. search needs) add-result returns)

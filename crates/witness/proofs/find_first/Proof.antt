@@ -15,7 +15,8 @@ use Rattle.witness.proofs.find_first.Statement.{statement}
 use Rattle.witness.proofs.find_first.Tie as tie
 
 enter-costs-requires : tie.Need-enter-costs-requires
-enter-costs-requires c κs = (let p = c .before .before .before .before .before .before .before .pre .1 in (c .before .no-costs .ensures, (p .rows, p .squared .size)))
+enter-costs-requires c κs = (let p = c .before .before .before .before .before .before .before .pre .1 in
+    (c .before .no-costs .ensures, (p .rows, p .squared .size)))
 
 relax-requires : tie.Need-relax-requires
 relax-requires c κs =
@@ -26,7 +27,8 @@ seen : (c : tie.After-relax)
     → (let a = c .before .before .before .before .before .before .before .before .before .before .args in
     Searched (automatonIn (a .t) (a .nexts .now)) (apartAtOnce (a .square .now)) (a .set .bits) (a .square .now) (c .before .before .enter-costs .last .0)
     (c .relax .last .0))
-seen c = searched _ (c .before .before .before .before .before .before .before .before .before .before .pre .1) (c .before .before .enter-costs .ensures) (c .relax .ensures)
+seen c = searched _ (c .before .before .before .before .before .before .before .before .before .before .pre .1) (c .before .before .enter-costs .ensures)
+    (c .relax .ensures)
 
 returns : tie.Need-returns
 returns c =

@@ -11,7 +11,8 @@ returns : tie.Need-returns
 unfolding member inWord
 returns c =
     let a = c .before .before .before .before .args in
-    words-by (λ x y. x && not y) (a .self .low) (a .other .low) (a .self .high) (a .other .high) _ _ (bit-minus 64 _ _ (omega arith) (omega arith)) (bit-minus 64 _ _ (omega arith) (omega arith))
+    words-by (λ x y. x && not y) (a .self .low) (a .other .low) (a .self .high) (a .other .high) _ _ (bit-minus 64 _ _ (omega arith) (omega arith))
+    (bit-minus 64 _ _ (omega arith) (omega arith))
 
 pub minus-spec : {M : Type 1} → statement M
 minus-spec = tie.close (tie.spec returns)
