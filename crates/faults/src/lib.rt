@@ -5,6 +5,7 @@ ghost use mathlib.Core.Path.{_≡_};
 ghost use mathlib.Core.List.{_∷_};
 ghost use mathlib.Core.Option.{some};
 ghost use Prim.Native.Nat.{ℕ, _+_, _≤_, _<_};
+ghost use lib.Dec.{leb};
 ghost use lib.ListN.{length};
 ghost use lib.Seq.{sets};
 ghost use lib.Bits.{bitOr};
@@ -234,6 +235,13 @@ impl Cursor {
         ensures placed { λ r. ⌜ ((k : ℕ) → 0 < k → Placed k r) ⌝ }
     {
         Self::from_rank(set, 0)
+    }
+
+    // Whether every fault step is behind.
+    pub fn is_end(self) -> bool
+        ensures { λ r. ⌜ r ≡ leb kinds (self .rank) ⌝ }
+    {
+        self.rank >= KINDS
     }
 
     // The fault step here.

@@ -254,6 +254,12 @@ first-here f a (suc c) h = go (f a) refl h (first-here f (suc a) c)
 pub first-none : (f : ℕ → Bool) (a c j : ℕ) → first f a c ≡ a + c → a ≤ j → j < a + c → f j ≡ false
 first-none f a c j e l h = first-below f a c j l (omega arith)
 
+-- tests that agree on the numbers have one first
+pub first-same : (f g : ℕ → Bool) (a c : ℕ) → ((i : ℕ) → a ≤ i → i < a + c → f i ≡ g i) → first f a c ≡ first g a c
+unfolding first
+first-same f g a zero h = refl
+first-same f g a (suc c) h = rw (h a (le-refl a) (omega arith), first-same f g (suc a) c (λ i l u. h i (omega (arith, l)) (omega (arith, u))))
+
 -- g is the test f one further on
 pub first-from : (f g : ℕ → Bool) → ((i : ℕ) → f (suc i) ≡ g i) → (a c : ℕ) → first f (suc a) c ≡ suc (first g a c)
 unfolding first

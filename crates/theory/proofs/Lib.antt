@@ -18,3 +18,4 @@ pub mod Witness
 pub mod Extent
 pub mod Distance
 pub mod Trust
+pub mod Certificate

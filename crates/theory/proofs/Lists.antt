@@ -1,6 +1,6 @@
--- The laws of `In`, `find`, `each` and `Rising`.
+-- The laws of `In`, `anyIn`, `find`, `each` and `Rising`.
 use mathlib.Core.Path.{_≡_, refl, sym, ap, _∙_, subst}
-use mathlib.Core.Bool.{Bool, true, false, cond}
+use mathlib.Core.Bool.{Bool, true, false, cond, true≢false}
 use mathlib.Core.List.{List, [], _∷_, _++_, map, flatMap, append-assoc, append-nil}
 use mathlib.Core.Logic.{_⊎_, inl, inr, ⊎-elim}
 use mathlib.Core.Option.{Option, none, some, Option·none-ne-some, Option·some-injective}
@@ -9,8 +9,8 @@ use native.Mathlib.Nat.{le-refl, le-of-suc-le-suc, not-suc-le-zero, eq-or-lt-of-
 use native.Mathlib.Omega.{arith}
 use lib.ListN.{length, take, drop, length-append}
 use lib.Seq.{take-append-seam, drop-at}
-use Rattle.theory.specs.Lists.{In, find, each, Rising}
-use Rattle.theory.proofs.Below.{clash}
+use Rattle.theory.specs.Lists.{In, anyIn, find, each, Rising}
+use Rattle.theory.proofs.Below.{clash, or-cases, or-left, or-right}
 
 module _ {A : Type 0} where
   pub no-some : {x : A} → _≡_ {A = Option A} none (some x) → ⊥
@@ -86,9 +86,21 @@ module _ {A : Type 0} where
       ⊎-elim (λ i. (let r = in-each x n f i in record { index = r .index; below = omega (arith, r .below); here = r .here }))
       (λ i. record { index = n; below = le-refl (suc n); here = i }) (in-either x (each n f) (f n) h)
 
-  -- ---- the first that passes
+  -- ---- whether some element passes, and the first that does
 
   module _ (f : A → Bool) where
+    pub any-in-at : (xs : List A) {x : A} → In x xs → f x ≡ true → anyIn f xs ≡ true
+    unfolding anyIn
+    any-in-at [] i e = absurd i
+    any-in-at (y ∷ xs) {x} i e =
+        ⊎-elim (λ (q : x ≡ y). or-left (f y) (anyIn f xs) (ap f (sym q) ∙ e)) (λ j. or-right (f y) (anyIn f xs) (any-in-at xs j e)) i
+
+    pub any-in-find : (xs : List A) → anyIn f xs ≡ true → (x : A) × In x xs × (f x ≡ true)
+    unfolding anyIn
+    any-in-find [] e = absurd (true≢false (sym e))
+    any-in-find (y ∷ xs) e =
+        ⊎-elim (λ h. (y, inl refl, h)) (λ h. (let r = any-in-find xs h in (r .0, inr (r .1), r .2))) (or-cases (f y) (anyIn f xs) e)
+
     pub find-none : (xs : List A) → ((x : A) → In x xs → f x ≡ false) → find f xs ≡ none
     unfolding find
     find-none [] h = refl

@@ -7,7 +7,7 @@ use native.Mathlib.Nat.{le-refl, le-of-suc-le-suc, not-suc-le-zero, eq-or-lt-of-
 use native.Mathlib.Numerals.{add-one}
 use native.Mathlib.Omega.{arith}
 use lib.ListN.{length, getD, take, drop, set, length-append, length-drop}
-use lib.Seq.{drop-cons, take-suc, set-at, getD-at}
+use lib.Seq.{drop-cons, take-suc, take-at, set-at, getD-at, getD-take}
 use Rattle.theory.specs.Below.{values}
 
 pub length-values : (n : ℕ) (f : ℕ → ℕ) → length (values n f) ≡ n
@@ -57,3 +57,10 @@ getD-filled f rest (suc n) q l =
 
 pub getD-values : (n : ℕ) (f : ℕ → ℕ) (q : ℕ) → q < n → getD (values n f) q 0 ≡ f q
 getD-values n f q l = ap (λ (xs : List ℕ). getD xs q 0) (sym (append-nil (values n f))) ∙ getD-filled f [] n q l
+
+-- the first n of a list that was filled with values
+pub filled-read : (n : ℕ) (f : ℕ → ℕ) (rest : List ℕ) {l : List ℕ} → l ≡ values n f ++ rest → (q : ℕ) → q < n → getD (take n l) q 0 ≡ f q
+filled-read n f rest {l} e q h = getD-take n l q 0 h ∙ ap (λ (xs : List ℕ). getD xs q 0) e ∙ getD-filled f rest n q h
+
+pub filled-count : (n : ℕ) (f : ℕ → ℕ) (rest : List ℕ) {l : List ℕ} → l ≡ values n f ++ rest → n ≡ length (take n l)
+filled-count n f rest e = sym (ap (λ (xs : List ℕ). length (take n xs)) e ∙ ap length (take-at (values n f) rest n (length-values n f)) ∙ length-values n f)

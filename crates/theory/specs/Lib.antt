@@ -12,3 +12,4 @@ pub mod Series
 pub mod Distance
 pub mod Trust
 pub mod Computed
+pub mod Certificate

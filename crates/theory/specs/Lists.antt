@@ -1,6 +1,7 @@
--- Lists of any kind: what is in a list, the first that passes a test, lists joined number by number, rising lists.
+-- Lists of any kind: what is in a list, whether some element passes a test, the first that does, lists joined number by
+-- number, rising lists.
 use mathlib.Core.Path.{_≡_}
-use mathlib.Core.Bool.{Bool, cond}
+use mathlib.Core.Bool.{Bool, false, cond, _||_}
 use mathlib.Core.List.{List, [], _∷_, _++_}
 use mathlib.Core.Logic.{_⊎_}
 use mathlib.Core.Option.{Option, none, some}
@@ -11,6 +12,11 @@ module _ {A : Type 0} where
   abbrev pub In : A → List A → Type 0
   In x [] = ⊥
   In x (y ∷ ys) = (x ≡ y) ⊎ In x ys
+
+  -- some element of the list passes the test
+  unfoldable pub anyIn : (A → Bool) → List A → Bool
+  anyIn f [] = false
+  anyIn f (x ∷ xs) = f x || anyIn f xs
 
   -- the first of the list that passes the test
   unfoldable pub find : (A → Bool) → List A → Option A

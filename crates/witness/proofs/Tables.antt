@@ -1,11 +1,9 @@
 -- From the square and the outputs that the search goes by to the readings of the table.
-use mathlib.Core.Path.{_≡_, refl, sym, ap, _∙_}
-use mathlib.Core.List.{List, _++_}
+use mathlib.Core.Path.{_≡_, refl, ap, _∙_}
+use mathlib.Core.List.{List}
 use mathlib.Core.Option.{Option, none, some}
 use Prim.Native.Nat.{ℕ, _<_}
-use lib.ListN.{length, getD, take}
-use lib.Seq.{getD-take, take-at}
-use Rattle.theory.specs.Below.{values}
+use lib.ListN.{length, getD}
 use Rattle.theory.specs.Automaton.{Automaton, run}
 use Rattle.theory.specs.Monitor.{Monitor, reading, stateLimit}
 use Rattle.theory.specs.Faults.{steps}
@@ -13,7 +11,6 @@ use Rattle.theory.specs.Answer.{Answer, asks, written}
 use Rattle.theory.specs.Series.{Series, sentTrace, receivedTrace}
 use Rattle.theory.specs.Distance.{faultsOf}
 use Rattle.theory.specs.Computed.{firstHarmful}
-use Rattle.theory.proofs.Values.{length-values, getD-filled}
 use Rattle.theory.proofs.Reach.{run-in}
 use Rattle.theory.proofs.Faults.{steps-good, steps-rise}
 use Rattle.theory.proofs.Witness.{harmful-same, first-harms, sent-trace, received-trace}
@@ -25,13 +22,6 @@ use Rattle.pairs.specs.Square.{Squared, apartAtOnce, passing}
 use Rattle.pairs.proofs.Path.{at-once, squared-at-once}
 use Rattle.witness.specs.Figures.{FaultFigures, witnessFigures, witnessTrace, roomQuestions, endsBy, firstBy, figuresBy}
 use Rattle.witness.specs.Search.{automatonIn, Posed}
-
--- the first n of a list that was filled with values
-pub filled-read : (n : ℕ) (f : ℕ → ℕ) (rest : List ℕ) {l : List ℕ} → l ≡ values n f ++ rest → (q : ℕ) → q < n → getD (take n l) q 0 ≡ f q
-filled-read n f rest {l} e q h = getD-take n l q 0 h ∙ ap (λ (xs : List ℕ). getD xs q 0) e ∙ getD-filled f rest n q h
-
-pub filled-count : (n : ℕ) (f : ℕ → ℕ) (rest : List ℕ) {l : List ℕ} → l ≡ values n f ++ rest → n ≡ length (take n l)
-filled-count n f rest e = sym (ap (λ (xs : List ℕ). length (take n xs)) e ∙ ap length (take-at (values n f) rest n (length-values n f)) ∙ length-values n f)
 
 -- outs holds what every state reads, and the square has at 0 what passes the test
 module _ {limit n k start : ℕ} {vs ts : List ℕ} (t : Table limit n k start vs ts) (test : Test) (d set : ℕ) (outs square : List ℕ)

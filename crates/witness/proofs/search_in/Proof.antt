@@ -3,9 +3,10 @@ use mathlib.Core.Path.{sym}
 use lib.ListN.{length, take}
 use borrow.Author.Needs.{needs}
 use Rattle.theory.specs.Monitor.{reading}
+use Rattle.theory.proofs.Values.{filled-read, filled-count}
 use Rattle.monitor.specs.Opening.{monitorIn}
 use Rattle.witness.specs.Figures.{outcome}
-use Rattle.witness.proofs.Tables.{filled-read, filled-count, table-posed, table-answer, table-area}
+use Rattle.witness.proofs.Tables.{table-posed, table-answer, table-area}
 use Rattle.witness.proofs.search_in.Statement.{statement}
 use Rattle.witness.proofs.search_in.Tie as tie
 

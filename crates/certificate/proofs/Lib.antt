@@ -1,0 +1,3 @@
+pub mod Lowest
+pub mod Parting
+pub mod Agreeing
