@@ -9,6 +9,7 @@ use lib.ListN.{length}
 use borrow.Author.Tests.{leb-true}
 use Rattle.theory.specs.Answer.{Question, Answer, refused, answered, asks}
 use Rattle.theory.specs.Monitor.{class}
+use Rattle.theory.specs.Certificate.{lowestAlike, madeBlocks}
 use Rattle.theory.proofs.Lists.{in-right}
 use Rattle.theory.proofs.Answer.{asks-values, untouched, all-answered, answered-all, no-refused}
 use Rattle.theory.proofs.Values.{length-values}
@@ -19,6 +20,8 @@ use Rattle.writer.specs.Writing.{fileOf, givenQuestions, writeQuestions, writeA
 use Rattle.classes.specs.Classify.{classList, classifyFigures, classifyAnswer}
 use Rattle.immunity.specs.Findings.{tableFigures, faultAnswer, faultTrace}
 use Rattle.trust.specs.Trust.{trustFigures, trustAnswer, trustTrace}
+use Rattle.certificate.specs.Questions.{certificateQuestions, certificateAnswer}
+use Rattle.blocks.specs.Made.{blocksFigures, blocksAnswer}
 use Rattle.lines.specs.Line.{ruleLine, lineAnswer}
 use Rattle.demands.specs.DemandOne.{FirstNo, Judged, Lent, DemandOne}
 
@@ -78,7 +81,7 @@ asks-lent {A} front values bytes area size same = record { untouched = λ number
         absurd (omega arith)
 
 pub demand-one : (limit : ℕ) (body file area : List ℕ) → DemandOne limit body file area
-unfolding judgeAnswer collectionAnswer classifyAnswer faultAnswer trustAnswer lineAnswer writeAnswer
+unfolding judgeAnswer collectionAnswer classifyAnswer faultAnswer trustAnswer certificateAnswer blocksAnswer lineAnswer writeAnswer
 demand-one limit body file area =
     let m = monitorOf body in
     record {
@@ -88,6 +91,9 @@ demand-one limit body file area =
       faults = λ set d. asks-lent (tableQuestions limit body ++ (question9 set ∷ question10 d ∷ [])) (tableFigures m d set) (faultTrace body set d) area _ refl;
       trusts = λ set d v. asks-lent (tableQuestions limit body ++ (question9 set ∷ question10 d ∷ question19 d v ∷ [])) (trustFigures m d set v)
           (trustTrace body set d v) area _ refl;
+      certificate = λ set d c. asks-judged (tableQuestions limit body ++ certificateQuestions set d c m) [];
+      blocks = λ d. asks-lent (tableQuestions limit body ++ (question10 d ∷ [])) (blocksFigures m) (madeBlocks m d) area (statesOf body)
+          (sym (length-values (statesOf body) (lowestAlike m d)));
       writer = λ rules lengths bodies. asks-judged (writeQuestions limit rules lengths bodies (length area)) (length (fileOf rules lengths bodies) ∷ []);
       line = λ rule. asks-lent [] (length (ruleLine limit rule body) ∷ []) (ruleLine limit rule body) area _ refl;
       written-file = λ rules lengths bodies. asks-lent (givenQuestions limit rules lengths bodies) (length (fileOf rules lengths bodies) ∷ [])

@@ -6,3 +6,4 @@ pub mod RoundTrip
 pub mod TrustedVerdicts
 pub mod SettledMarks
 pub mod Limits
+pub mod Certificates

@@ -24,6 +24,8 @@ use Rattle.readings.specs.Readings.{stepAnswer, traceAnswer}
 use Rattle.witness.specs.Figures.{witnessAnswer}
 use Rattle.immunity.specs.Findings.{faultAnswer, cardAnswer}
 use Rattle.trust.specs.Trust.{trustAnswer}
+use Rattle.certificate.specs.Questions.{certificateAnswer}
+use Rattle.blocks.specs.Made.{blocksAnswer}
 use Rattle.lines.specs.Line.{ruleLine, lineAnswer}
 use Rattle.demands.specs.Limits.{Alike, SameLent, SameResult, SameFile, Limits}
 
@@ -62,7 +64,7 @@ module _ (limit other : ℕ) (b : List ℕ) (alike : Alike limit other (statesOf
   line-same rule = rw judged-same
 
   result-same : SameResult limit other b
-  unfolding classifyAnswer stepAnswer traceAnswer faultAnswer trustAnswer witnessAnswer cardAnswer lineAnswer
+  unfolding classifyAnswer stepAnswer traceAnswer faultAnswer trustAnswer witnessAnswer certificateAnswer blocksAnswer cardAnswer lineAnswer
   result-same = record {
     judged = judged-same;
     classes = lent-same (λ room. rw two-same) refl;
@@ -71,6 +73,8 @@ module _ (limit other : ℕ) (b : List ℕ) (alike : Alike limit other (statesOf
     faults = λ set d. lent-same (λ room. rw two-same) refl;
     trusts = λ set d v. lent-same (λ room. rw two-same) refl;
     witness = λ test set d. lent-same (λ room. rw two-same) refl;
+    certificate = λ set d c. rw two-same;
+    blocks = λ d. lent-same (λ room. rw two-same) refl;
     card = rw two-same;
     line = λ rule. lent-same (λ room. rw (line-same rule)) (line-same rule);
     text = line-same;

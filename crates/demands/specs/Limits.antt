@@ -6,6 +6,7 @@ use Prim.Native.Nat.{ℕ, _+_, _*_, _≤_, _<_}
 use lib.ListN.{length}
 use Rattle.theory.specs.Answer.{Answer, answered, written}
 use Rattle.theory.specs.Monitor.{symbolLimit}
+use Rattle.theory.specs.Certificate.{madeBlocks}
 use Rattle.monitor.specs.Format.{statesOf, monitorOf}
 use Rattle.monitor.specs.Questions.{noValues, judgeAnswer}
 use Rattle.writer.specs.Writing.{givenBody, fileOf, writeAnswer}
@@ -15,6 +16,8 @@ use Rattle.pairs.specs.declared.Test.{Test}
 use Rattle.witness.specs.Figures.{witnessTrace, firstBy, witnessAnswer}
 use Rattle.immunity.specs.Findings.{faultAnswer, faultTrace, cardAnswer}
 use Rattle.trust.specs.Trust.{trustAnswer, trustTrace}
+use Rattle.certificate.specs.Questions.{certificateAnswer}
+use Rattle.blocks.specs.Made.{blocksAnswer}
 use Rattle.lines.specs.Line.{ruleLine, lineAnswer}
 
 -- n states are within both limits, or within neither
@@ -38,6 +41,9 @@ pub record SameResult (limit other : ℕ) (body : List ℕ) : Type 0 where
   pub witness : (test : Test) (set d : ℕ)
       → SameLent limit other (λ l. witnessAnswer l body test set d)
       (λ l. witnessTrace (firstBy test (monitorOf body) d set))
+  pub certificate : (set d : ℕ) (c : List ℕ)
+      → certificateAnswer limit body set d c ≡ certificateAnswer other body set d c
+  pub blocks : (d : ℕ) → SameLent limit other (λ l. blocksAnswer l body d) (λ l. madeBlocks (monitorOf body) d)
   pub card : cardAnswer limit body ≡ cardAnswer other body
   pub line : (rule : ℕ) → SameLent limit other (λ l. lineAnswer l rule body) (λ l. ruleLine l rule body)
   pub text : (rule : ℕ) → ruleLine limit rule body ≡ ruleLine other rule body
