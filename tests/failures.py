@@ -27,17 +27,19 @@ LARGE = collection(LONGEST + [(i, E) for i in range(3, 513)])
 WRITE = ["ask", "write", "100", "1", "2", "/", str(len(E)), str(len(E))]
 PACK = ["pack", "1", kept("first", E), "2", kept("second", E)]
 
-# A call of each program, and of `ask` one that reads no input, one that reads a trace and one that writes.
+# A call of each program, and of `ask` one that reads no input, some that read a trace or a proof and one that writes.
 CALLS = [(["listing"], SAMPLE), (["card"], SAMPLE), (["card", "20", "21"], SAMPLE), (["ask", "judge"], E),
          (["ask", "rule", "20", "fault", "8", "3", "3"], SAMPLE), (["ask", "trust", "4", "3", "1", "61"], RINGS[0]),
          (["ask", "trace", "3", "1", "1"], E),
          (["ask", "trace", "3", stored("hour", [0] * 262142 + [1, 1])], E),
+         (["ask", "proof", "0", "3", "0", "1", "2"], E), (["ask", "blocks", "3"], E),
+         (["ask", "proof", "15", "6", stored("long proof", [0] * 262144)], E),
          (["ask", "why", "8"], b""), (["listing", "--help"], b""), (["card", "--help"], b""), (["ask", "--help"], b""),
          (WRITE, E + E), (PACK, b""), (["pack", "--help"], b"")]
 
 # The greatest stack, in KiB, that a call may need: of `listing`; of `card` and most forms of `ask`, which hold the
-# longest witness as well; and of the rest. For `ask trace` and `ask write` the room for 262,144 bytes comes on top, and
-# `pack` has the bodies and the collection beside each other.
+# longest witness as well; and of the rest. For `ask trace`, `ask proof` and `ask write` the room for 262,144 bytes
+# comes on top, and `pack` has the bodies and the collection beside each other.
 STACK, WITNESS_STACK, WIDE_STACK = 256, 384, 512
 
 
@@ -115,18 +117,21 @@ def unreadable_input():
 
 
 def unreadable_file():
-    """A trace's file that is not there, that is a folder, that cannot be read, that is too long, and, unless this is
-    root, who may read all, that the user may not read. Nothing is answered, and nothing is read of standard input."""
+    """The file of a trace or a proof that is not there, that is a folder, that cannot be read, that is too long, and,
+    unless this is root, who may read all, that the user may not read. Nothing is answered, and nothing is read of
+    standard input."""
     locked = stored("locked", [1, 1])
     os.chmod(locked[1:], 0)
     longer = stored("longer", [0] * 262145)
     failing = [("@tests/none", "tests/none: No such file or directory"), ("@tests", "tests: Is a directory"),
                ("@/proc/self/mem", "/proc/self/mem: Input/output error"),
-               (longer, f"{longer[1:]}: more than 262144 messages")]
+               (longer, f"{longer[1:]}: more than 262144 bytes")]
     if os.geteuid() != 0:
         failing.append((locked, f"{locked[1:]}: Permission denied"))
     for word, reason in failing:
-        for words, data in ((["ask", "trace", "3", word], E), (["ask", "rule", "20", "trace", "6", word], SAMPLE)):
+        for words, data in ((["ask", "trace", "3", word], E), (["ask", "rule", "20", "trace", "6", word], SAMPLE),
+                            (["ask", "proof", "1", "3", word], E),
+                            (["ask", "rule", "20", "proof", "1", "6", word], SAMPLE)):
             with tempfile.TemporaryFile() as file:
                 file.write(data)
                 file.seek(0)
@@ -151,6 +156,8 @@ def small_stack():
     calls = CALLS + [(["listing"], LARGE), (["card"], LARGE), (["card", "x"], SAMPLE), (["ask"], E),
                      (["ask", "rule", "1", "fault", "4", "6", str(ROOM)], LARGE), (["ask", "collection"], LARGE),
                      (["ask", "trust", "4", "3", "1", "9" * 99], RINGS[-1]),
+                     (["ask", "blocks", "6"], RINGS[-1]), (["ask", "rule", "1", "blocks", "3"], LARGE),
+                     (["ask", "rule", "1", "proof", "15", "6", *map(str, range(128))], LARGE),
                      (["ask", "rule", "1", "trust", "15", "6", "5", str(ROOM)], LARGE),
                      (["ask", "rule", "512", "trace", "6", stored("longest", [0] * 262144)], LARGE),
                      (["ask", "body", "1"], LARGE), (["ask", "write", "9" * 99, *["1"] * 513, "/", *["0"] * 512], LARGE),
@@ -159,7 +166,7 @@ def small_stack():
                      (["pack", *[word for i in range(513) for word in (str(i), PACK[2])]], b""),
                      (["ask", "classes", "9" * 9999], E), (["ask", "rule", "512", "trace", "3"] + ["1"] * 999, LARGE)]
     for words, data in calls:
-        wide = words[0] == "pack" or {"trace", "write"} & set(words)
+        wide = words[0] == "pack" or {"trace", "proof", "write"} & set(words)
         kib = WIDE_STACK if wide else STACK if words[0] == "listing" else WITNESS_STACK
 
         def limits():

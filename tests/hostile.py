@@ -73,7 +73,7 @@ def messages_of(words):
     except OSError as error:
         raise Unreadable(f"ask: {name}: {os.strerror(error.errno)}\n")
     if len(messages) > MESSAGE_LIMIT:
-        raise Unreadable(f"ask: {name}: more than {MESSAGE_LIMIT} messages\n")
+        raise Unreadable(f"ask: {name}: more than {MESSAGE_LIMIT} bytes\n")
     return messages
 
 

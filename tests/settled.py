@@ -27,7 +27,8 @@ def check(came, wanted, about):
 
 
 # ---- answers written out
-# The calls of `probe`, by number: 0 judge, 1 classes, 2 step, 3 trace, 4 fault, 5 card, 6 write, 7 trust.
+# The calls of `probe`, by number: 0 judge, 1 classes, 2 step, 3 trace, 4 fault, 5 card, 6 write, 7 trust, 8 proof,
+# 9 blocks.
 
 
 def refused_facts():

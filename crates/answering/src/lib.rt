@@ -1,11 +1,13 @@
 // The answers of the program `ask` about a body, the body of a rule of a collection, or that collection.
 use asking::asked::Form;
 use asking::asked::Subject;
+use basics::Writing;
 use classes::Classification;
 use collection::Collected;
 use collection::Lookup;
 use immunity::Finding;
 use output::Output;
+use theory::STATE_LIMIT;
 use trust::Trust;
 use witness::WITNESS_ROOM;
 use witness::Witness;
@@ -54,18 +56,28 @@ fn believe(
     sent_and_counts(answered, witness, lent)
 }
 
-// How many bytes a form asks to be lent.
+// The block of each state.
+fn list_blocks(out: Output, body: &[u8], domain: usize, lent: &mut [u8]) -> Output {
+    let answer = blocks::write(body, domain, lent);
+    let Writing::Written { length } = answer else {
+        return printing::writing(out, answer);
+    };
+    printing::bytes(out.text(b"blocks"), basics::part(lent, 0, length))
+}
+
+// How many bytes a form asks to be lent; for blocks, as many as any table has states.
 fn room_of(form: Form) -> usize {
     match form {
         Form::Classes { room } => room,
         Form::Fault { room, .. } => room,
         Form::Trust { room, .. } => room,
+        Form::Blocks { .. } => STATE_LIMIT,
         _ => 0,
     }
 }
 
 // The form asked of a body. No more bytes are lent than the longest answer takes.
-fn of_body(out: Output, form: Form, body: &[u8], messages: &[u8]) -> Output {
+fn of_body(out: Output, form: Form, body: &[u8], series: &[u8]) -> Output {
     let mut area = [0u8; WITNESS_ROOM];
     let end = basics::least_of(room_of(form), WITNESS_ROOM);
     let lent = &mut area[0..end];
@@ -78,10 +90,7 @@ fn of_body(out: Output, form: Form, body: &[u8], messages: &[u8]) -> Output {
             state,
             symbol,
         } => printing::stepped(out, readings::step(body, domain, state, symbol)),
-        Form::Trace { domain, .. } => printing::traced(
-            out,
-            readings::trace(body, domain, messages),
-        ),
+        Form::Trace { domain, .. } => printing::traced(out, readings::trace(body, domain, series)),
         Form::Fault { set, domain, .. } => examine(out, body, set, domain, lent),
         Form::Trust {
             set,
@@ -89,11 +98,16 @@ fn of_body(out: Output, form: Form, body: &[u8], messages: &[u8]) -> Output {
             verdict,
             ..
         } => believe(out, body, set, domain, verdict, lent),
+        Form::Proof { set, domain, .. } => printing::judgement(
+            out,
+            certificate::check(body, set, domain, series),
+        ),
+        Form::Blocks { domain } => list_blocks(out, body, domain, lent),
     }
 }
 
 // The form asked of the body of a rule, where the collection is accepted and has the rule.
-fn of_rule(out: Output, rule: usize, form: Form, file: &[u8], messages: &[u8]) -> Output {
+fn of_rule(out: Output, rule: usize, form: Form, file: &[u8], series: &[u8]) -> Output {
     let judged = collection::judge(file);
     let Collected::Accepted { .. } = judged else {
         return printing::collected(out, judged);
@@ -101,15 +115,15 @@ fn of_rule(out: Output, rule: usize, form: Form, file: &[u8], messages: &[u8]) -
     let Lookup::Entry(i) = collection::find(file, rule) else {
         return out.text(b"absent");
     };
-    of_body(out, form, collection::body(file, i), messages)
+    of_body(out, form, collection::body(file, i), series)
 }
 
-// The answer to a form, without the end of its line. The input is the body or the collection; a trace has these
-// messages.
-pub fn answer(out: Output, subject: Subject, form: Form, input: &[u8], messages: &[u8]) -> Output {
+// The answer to a form, without the end of its line. The input is the body or the collection; the series is the trace
+// or the proof of a form that has one.
+pub fn answer(out: Output, subject: Subject, form: Form, input: &[u8], series: &[u8]) -> Output {
     match subject {
-        Subject::Body => of_body(out, form, input, messages),
-        Subject::Rule(rule) => of_rule(out, rule, form, input, messages),
+        Subject::Body => of_body(out, form, input, series),
+        Subject::Rule(rule) => of_rule(out, rule, form, input, series),
         Subject::Collection => printing::collected(out, collection::judge(input)),
     }
 }

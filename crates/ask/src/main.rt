@@ -8,8 +8,8 @@ use asking::asked::Form;
 use asking::asked::Source;
 use asking::asked::Subject;
 use asking::lists;
-use asking::messages;
-use asking::messages::Gathered;
+use asking::series;
+use asking::series::Gathered;
 use basics::Writing;
 use input::Input;
 use output::Output;
@@ -25,20 +25,20 @@ fn answer_unread(read: Input) {
 }
 
 // The answer line. Before all others the program asks whether the input is short enough.
-fn answer(subject: Subject, form: Form, messages: &[u8], space: &mut [u8]) {
+fn answer(subject: Subject, form: Form, series: &[u8], space: &mut [u8]) {
     let read = input::read(Program::Ask, space);
     let Input::Whole { length } = read else {
         answer_unread(read);
         return;
     };
     let out = output::standard(Program::Ask);
-    answering::answer(out, subject, form, basics::part(space, 0, length), messages).text(b"\n");
+    answering::answer(out, subject, form, basics::part(space, 0, length), series).text(b"\n");
 }
 
-// The answer to a trace, after its messages are gathered into the area.
-fn answer_trace(subject: Subject, form: Form, source: Source, area: &mut [u8], space: &mut [u8]) {
-    match messages::gather(source, area, space) {
-        Gathered::Messages { count } => answer(subject, form, basics::part(area, 0, count), space),
+// The answer to a form with a trace or a proof, after that is gathered into the area.
+fn answer_series(subject: Subject, form: Form, source: Source, area: &mut [u8], space: &mut [u8]) {
+    match series::gather(source, area, space) {
+        Gathered::Series { length } => answer(subject, form, basics::part(area, 0, length), space),
         Gathered::Unclear => words::usage(),
         Gathered::Failed => {}
     }
@@ -104,9 +104,9 @@ fn answer_write(room: usize, rules: usize, lengths: usize, area: &mut [u8], spac
     read_lists(room, rules, lengths, area, space);
 }
 
-// What takes a large array: the messages of a trace, or a collection that is written.
+// What takes a large array: a trace, a proof, or a collection that is written.
 enum Large {
-    Trace {
+    Series {
         subject: Subject,
         form: Form,
         source: Source,
@@ -121,13 +121,13 @@ enum Large {
 // The answer to these, with the array in a frame of its own. It is called in several places: what is called in one the
 // compiler makes a part of its caller, and then every form would have that room.
 fn answer_large(large: Large, space: &mut [u8]) {
-    let mut area = [0u8; messages::ROOM];
+    let mut area = [0u8; series::ROOM];
     match large {
-        Large::Trace {
+        Large::Series {
             subject,
             form,
             source,
-        } => answer_trace(subject, form, source, &mut area, space),
+        } => answer_series(subject, form, source, &mut area, space),
         Large::Write {
             room,
             rules,
@@ -137,20 +137,16 @@ fn answer_large(large: Large, space: &mut [u8]) {
 }
 
 fn answer_form(subject: Subject, form: Form, space: &mut [u8]) {
-    let Form::Trace { source, .. } = form else {
-        answer(subject, form, b"", space);
-        return;
-    };
-    match subject {
-        Subject::Collection => words::usage(),
-        _ => answer_large(
-            Large::Trace {
+    match form {
+        Form::Trace { source, .. } | Form::Proof { source, .. } => answer_large(
+            Large::Series {
                 subject,
                 form,
                 source,
             },
             space,
         ),
+        _ => answer(subject, form, b"", space),
     }
 }
 

@@ -8,12 +8,16 @@ pub fn usage() {
         b"usage: ask judge | classes AREA | step READING STATE MESSAGE | trace READING MESSAGE..",
     );
     output::error_text(b" | trace READING @FILE | fault SET READING AREA");
-    output::error_text(b" | trust SET READING VERDICT AREA | rule RULE FORM.. | body RULE");
+    output::error_text(b" | trust SET READING VERDICT AREA | proof SET READING BLOCK..");
+    output::error_text(
+        b" | proof SET READING @FILE | blocks READING | rule RULE FORM.. | body RULE",
+    );
     output::error_text(b" | collection | write AREA RULE.. / LENGTH.. | why NUMBER");
     output::error_text(b"; ask --help says more\n");
 }
 
-fn forms(out: Output) -> Output {
+// The forms that are asked of a body.
+fn body_forms(out: Output) -> Output {
     out.text(
             b"ask answers one question on one line. The table's body is read from standard input:\n",
         )
@@ -34,9 +38,22 @@ fn forms(out: Output) -> Output {
         .text(
             b"  ask trust SET READING VERDICT AREA yes: VERDICT can be believed, or no with the first witness\n",
         )
-        .text(b"Or a collection is:\n")
         .text(
-            b"  ask rule RULE FORM..               one of these forms, judge to trust, for a rule's body\n",
+            b"  ask proof SET READING BLOCK..      accepted if these blocks prove it immune, or refused\n",
+        )
+        .text(
+            b"  ask proof SET READING @FILE        the same for the bytes of a file, a block each\n",
+        )
+        .text(
+            b"  ask blocks READING                 the block of each state: a proof if it is immune\n",
+        )
+}
+
+// The others.
+fn other_forms(out: Output) -> Output {
+    out.text(b"Or a collection is:\n")
+        .text(
+            b"  ask rule RULE FORM..               one of these forms, judge to blocks, for a rule's body\n",
         )
         .text(b"  ask body RULE                      the bytes of a rule's body\n")
         .text(
@@ -51,7 +68,7 @@ fn forms(out: Output) -> Output {
 }
 
 pub fn help() {
-    forms(output::standard(Program::Ask))
+    other_forms(body_forms(output::standard(Program::Ask)))
         .text(
             b"\nA reading is 3 (settled marks) or 6 (classes); a set is the sum of loss 1, corruption 2, repeat 4,\n",
         )
@@ -62,9 +79,12 @@ pub fn help() {
             b"1 bad, 2 positive, 3 negative, 4 neutral, 5 ugly. It can be believed if the sent trace reads it\n",
         )
         .text(
-            b"wherever the received one does. AREA is the number of bytes lent for the answer: 16514 is always\n",
+            b"wherever the received one does. A block is a number below the number of states. AREA is the number\n",
         )
-        .text(b"enough, for write 69634. A refusal is the word refused, a number and a place.\n\n")
+        .text(
+            b"of bytes lent for the answer: 16514 is always enough, for write 69634. A refusal is the word\n",
+        )
+        .text(b"refused, a number and a place.\n\n")
         .text(b"Example: ask rule 20 fault 8 3 3 < samples/sample.collection\n")
         .text(
             b"docs/FORMAT.md in the repository explains the bytes, the numbers and the answers.\n",

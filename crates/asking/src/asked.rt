@@ -16,7 +16,8 @@ pub enum Subject {
     Collection,
 }
 
-// Where the messages of a trace are: the last arguments, so many; or the bytes of the file that an argument names.
+// Where the messages of a trace are, or the blocks of a proof: the last arguments, so many; or the bytes of the file
+// that an argument names.
 pub enum Source {
     Arguments(usize),
     File { argument: usize },
@@ -48,6 +49,14 @@ pub enum Form {
         domain: usize,
         verdict: usize,
         room: usize,
+    },
+    Proof {
+        set: usize,
+        domain: usize,
+        source: Source,
+    },
+    Blocks {
+        domain: usize,
     },
 }
 
@@ -82,6 +91,8 @@ enum Word {
     Trace,
     Fault,
     Trust,
+    Proof,
+    Blocks,
     Other,
 }
 
@@ -103,6 +114,12 @@ fn form_word(text: &[u8]) -> Word {
     }
     if check::same(text, b"trust") {
         return Word::Trust;
+    }
+    if check::same(text, b"proof") {
+        return Word::Proof;
+    }
+    if check::same(text, b"blocks") {
+        return Word::Blocks;
     }
     Word::Other
 }
@@ -142,15 +159,28 @@ fn judge_asked(subject: Subject, behind: usize) -> Asked {
     Asked::Form { subject, form }
 }
 
-// The other forms. Their numbers are the arguments from `at` on, and `behind` is how many arguments stand there.
-fn classes_asked(subject: Subject, at: usize, behind: usize, space: &mut [u8]) -> Asked {
+// The number of a question that has one. Here and below, numbers are the arguments from `at` on, and `behind` is how
+// many arguments stand there.
+fn only_number(at: usize, behind: usize, space: &mut [u8]) -> Decimal {
     if behind != 1 {
-        return Asked::Unclear;
+        return Decimal::NotANumber;
     }
-    let Decimal::Number(room) = arguments::number_at(at, space) else {
+    arguments::number_at(at, space)
+}
+
+fn classes_asked(subject: Subject, number: Decimal) -> Asked {
+    let Decimal::Number(room) = number else {
         return Asked::Unclear;
     };
     let form = Form::Classes { room };
+    Asked::Form { subject, form }
+}
+
+fn blocks_asked(subject: Subject, number: Decimal) -> Asked {
+    let Decimal::Number(domain) = number else {
+        return Asked::Unclear;
+    };
+    let form = Form::Blocks { domain };
     Asked::Form { subject, form }
 }
 
@@ -163,7 +193,7 @@ fn names_file(at: usize, space: &mut [u8]) -> bool {
     basics::byte_at(space, 0) == FILE_SIGN
 }
 
-// The messages that so many arguments from `at` on stand for: a file, if there is one argument and it names one.
+// What so many arguments from `at` on stand for: a file, if there is one argument and it names one.
 fn source_asked(at: usize, count: usize, space: &mut [u8]) -> Source {
     if count != 1 {
         return Source::Arguments(count);
@@ -174,17 +204,50 @@ fn source_asked(at: usize, count: usize, space: &mut [u8]) -> Source {
     Source::Arguments(count)
 }
 
-fn trace_asked(subject: Subject, at: usize, behind: usize, space: &mut [u8]) -> Asked
+// A reading, and behind it the messages or the blocks.
+enum Sourced {
+    Domain { domain: usize, source: Source },
+    Unclear,
+}
+
+fn domain_and_source(at: usize, behind: usize, space: &mut [u8]) -> Sourced
+    requires { ⌜ at ≤ 5 ⌝ }
+{
+    if behind == 0 {
+        return Sourced::Unclear;
+    }
+    let Decimal::Number(domain) = arguments::number_at(at, space) else {
+        return Sourced::Unclear;
+    };
+    let source = source_asked(at + 1, behind - 1, space);
+    Sourced::Domain { domain, source }
+}
+
+fn trace_asked(subject: Subject, given: Sourced) -> Asked {
+    let Sourced::Domain { domain, source } = given else {
+        return Asked::Unclear;
+    };
+    let form = Form::Trace { domain, source };
+    Asked::Form { subject, form }
+}
+
+fn proof_asked(subject: Subject, at: usize, behind: usize, space: &mut [u8]) -> Asked
     requires { ⌜ at ≤ 4 ⌝ }
 {
     if behind == 0 {
         return Asked::Unclear;
     }
-    let Decimal::Number(domain) = arguments::number_at(at, space) else {
+    let Decimal::Number(set) = arguments::number_at(at, space) else {
         return Asked::Unclear;
     };
-    let source = source_asked(at + 1, behind - 1, space);
-    let form = Form::Trace { domain, source };
+    let Sourced::Domain { domain, source } = domain_and_source(at + 1, behind - 1, space) else {
+        return Asked::Unclear;
+    };
+    let form = Form::Proof {
+        set,
+        domain,
+        source,
+    };
     Asked::Form { subject, form }
 }
 
@@ -290,11 +353,13 @@ fn form_asked(word: Word, subject: Subject, at: usize, behind: usize, space: &mu
 {
     match word {
         Word::Judge => judge_asked(subject, behind),
-        Word::Classes => classes_asked(subject, at, behind, space),
+        Word::Classes => classes_asked(subject, only_number(at, behind, space)),
         Word::Step => step_asked(subject, last_three(at, behind, space)),
-        Word::Trace => trace_asked(subject, at, behind, space),
+        Word::Trace => trace_asked(subject, domain_and_source(at, behind, space)),
         Word::Fault => fault_asked(subject, last_three(at, behind, space)),
         Word::Trust => trust_asked(subject, at, behind, space),
+        Word::Proof => proof_asked(subject, at, behind, space),
+        Word::Blocks => blocks_asked(subject, only_number(at, behind, space)),
         _ => Asked::Unclear,
     }
 }
@@ -311,12 +376,9 @@ fn rule_asked(count: usize, space: &mut [u8]) -> Asked {
     form_asked(word, Subject::Rule(rule), 4, count - 4, space)
 }
 
-// The body itself of a rule: argument 2 is the rule.
-fn body_asked(count: usize, space: &mut [u8]) -> Asked {
-    if count != 3 {
-        return Asked::Unclear;
-    }
-    let Decimal::Number(rule) = arguments::number_at(2, space) else {
+// The body itself of a rule.
+fn body_asked(number: Decimal) -> Asked {
+    let Decimal::Number(rule) = number else {
         return Asked::Unclear;
     };
     let subject = Subject::Rule(rule);
@@ -354,14 +416,11 @@ fn write_asked(count: usize, space: &mut [u8]) -> Asked {
     }
 }
 
-fn why_asked(count: usize, space: &mut [u8]) -> Asked {
-    if count != 3 {
-        return Asked::Unclear;
-    }
-    let Decimal::Number(number) = arguments::number_at(2, space) else {
+fn why_asked(number: Decimal) -> Asked {
+    let Decimal::Number(refusal) = number else {
         return Asked::Unclear;
     };
-    Asked::Why { number }
+    Asked::Why { number: refusal }
 }
 
 // Reads the arguments, one after the other, into a space that is lent.
@@ -373,11 +432,11 @@ pub fn read(space: &mut [u8]) -> Asked {
     let word = word_at(1, space);
     match word {
         Word::Help => Asked::Help,
-        Word::Why => why_asked(count, space),
+        Word::Why => why_asked(only_number(2, count - 2, space)),
         Word::Rule => rule_asked(count, space),
         Word::Collection => judge_asked(Subject::Collection, count - 2),
         Word::Write => write_asked(count, space),
-        Word::Body => body_asked(count, space),
+        Word::Body => body_asked(only_number(2, count - 2, space)),
         _ => form_asked(word, Subject::Body, 2, count - 2, space),
     }
 }

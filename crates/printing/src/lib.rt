@@ -22,7 +22,7 @@ pub fn refusal(out: Output, r: Refusal) -> Output {
         .number(r.place)
 }
 
-// What is wrong with a body, or with what is asked of it: 1 to 13 and 19.
+// What is wrong with a body, or with what is asked of it: 1 to 19.
 fn body_reason(out: Output, number: usize) -> Output {
     match number {
         1 => out.text(b"shorter than 3 bytes"),
@@ -38,6 +38,11 @@ fn body_reason(out: Output, number: usize) -> Output {
         11 => out.text(b"the state asked about is none of the states"),
         12 => out.text(b"a message that is none of the messages"),
         13 => out.text(b"the answer does not fit the area lent for it"),
+        14 => out.text(b"the proof has not one block for each state"),
+        15 => out.text(b"a block number not below the number of states"),
+        16 => out.text(b"two states of a block read differently"),
+        17 => out.text(b"a message takes two states of a block into different blocks"),
+        18 => out.text(b"a fault step brings sent and received into different blocks"),
         19 => out.text(b"the verdict is none of the reading's"),
         _ => out.text(b"no refusal has this number"),
     }
@@ -46,9 +51,7 @@ fn body_reason(out: Output, number: usize) -> Output {
 // Whether a refusal has this number.
 pub fn has_reason(number: usize) -> bool {
     match number {
-        1..=13 => true,
-        19 => true,
-        20..=28 => true,
+        1..=28 => true,
         _ => false,
     }
 }

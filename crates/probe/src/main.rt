@@ -100,6 +100,26 @@ fn believe(out: Output, set: usize, domain: usize, verdict: usize, bytes: &[u8])
     out
 }
 
+// Call 8: the numbers are the fault set, the reading and the length of the proof, which stands before the body.
+fn proof(out: Output, set: usize, domain: usize, length: usize, bytes: &[u8]) -> Output {
+    if length <= bytes.len() {
+        let answer = certificate::check(&bytes[length..], set, domain, &bytes[0..length]);
+        return printing::judgement(out, answer);
+    }
+    out
+}
+
+// Call 9: the numbers are the reading and the length of the area, which is full of 255 before the call.
+fn list_blocks(out: Output, domain: usize, room: usize, body: &[u8]) -> Output {
+    let mut area = [255u8; 256];
+    if room <= 256 {
+        let lent = &mut area[0..room];
+        let answer = blocks::write(body, domain, lent);
+        return printing::bytes(printing::writing(out, answer), lent);
+    }
+    out
+}
+
 // The answer to a frame that has its numbers.
 fn answered(out: Output, frame: &[u8], bytes: &[u8]) -> Output {
     let a = basics::byte_at(frame, 1);
@@ -113,6 +133,8 @@ fn answered(out: Output, frame: &[u8], bytes: &[u8]) -> Output {
         5 => card(out, bytes),
         6 => write(out, a, b, c, bytes),
         7 => believe(out, a, b, c, bytes),
+        8 => proof(out, a, b, c, bytes),
+        9 => list_blocks(out, a, b, bytes),
         _ => trace(out, a, b, bytes),
     }
 }

@@ -1,11 +1,11 @@
--- `read_messages` stays within its area and ends.
+-- `read_numbers` stays within its area and ends.
 use mathlib.Core.Path.{_≡_}
 use Prim.Native.Nat.{_≤_, _-_}
 use native.Mathlib.Omega.{arith}
 use lib.ListN.{length, length-set}
 use borrow.Author.Needs.{needs}
-use Rattle.asking.proofs.messages.read_messages.Statement.{statement}
-use Rattle.asking.proofs.messages.read_messages.Tie as tie
+use Rattle.asking.proofs.series.read_numbers.Statement.{statement}
+use Rattle.asking.proofs.series.read_numbers.Tie as tie
 
 abbrev Inv-loop : tie.InvT-loop
 Inv-loop area₀ space₀ count first i₀ area space i = (i ≤ length area) × (length area ≡ length area₀) × (length space ≡ length space₀)
@@ -19,8 +19,8 @@ loop-less c = simp length-set (omega arith)
 loop-again : tie.Need-loop-again Inv-loop μ-loop
 loop-again c = simp length-set (omega arith)
 
-pub read-messages-spec : {M : Type 1} → statement M
-read-messages-spec =
+pub read-numbers-spec : {M : Type 1} → statement M
+read-numbers-spec =
     tie.close (tie.spec
     Inv-loop μ-loop (λ c κs. search needs) (λ c. search needs) (λ c. search needs) (λ c. search needs)
     (λ c. search needs) (λ c κs. search needs) (λ c. search needs) (λ c. search needs) (λ c. search needs)
