@@ -45,6 +45,7 @@ test:
 	python3 tests/compare.py; \
 	python3 tests/brute.py | diff tests/brute.expected -; cat tests/brute.expected; \
 	python3 -B tests/settled.py; \
+	python3 -B tests/proofs.py; \
 	python3 -B tests/limits.py; \
 	python3 -B tests/check_reference.py; \
 	python3 -B tests/hostile.py; \

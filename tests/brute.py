@@ -1,22 +1,24 @@
 #!/usr/bin/env python3
-"""Compares the fault question, the card and which verdicts can be trusted, as the program `probe` answers them, with a
-search that tries every series of steps.
+"""Compares the fault question, the card, which verdicts can be trusted, and proofs of immunity, as the program `probe`
+answers them, with a search that tries every series of steps.
 
 The search is written from the specification alone and knows neither distances of pairs nor reachable states, and a
 state settles by its series of messages. For a fault question it goes up to sent length 2 * n - 1; a witness longer than
 that would show as a difference, since the program would not say immune. For a verdict n * n is enough: a shortest
 witness has at most n - 1 messages before the fault, two that the fault covers, and n * n - n - 1 behind it, since no
 pair of states comes twice there and none is a state beside itself. Where that would be too many series, the search
-ends earlier. Since states that are not reached count for nothing, some questions are asked again of the same table with
-its states spread among up to 128.
+ends earlier. A table is immune exactly if the states that no series of n messages tells apart make a proof that is
+accepted, and exactly if some proof is; of the tables of up to 3 states every proof is tried. Since states that are not
+reached count for nothing but in proofs, some questions are asked again of the same table with its states spread among
+up to 128.
 """
 import functools
 import itertools
 import random
 
-from model import (FAULT, KINDS, READINGS, SAMPLES, TRUST, ask_trust, card, compare, differ, drawn, fault_steps,
-                   finding, first_of, judge, misread, of_body, reading, received_by, run, sent_by, settled,
-                   small_tables)
+from model import (FAULT, KINDS, READINGS, SAMPLES, TRUST, ask_blocks, ask_proof, ask_trust, card, compare, differ,
+                   drawn, fault_steps, finding, first_of, judge, misread, of_body, reading, received_by, run, sent_by,
+                   settled, small_tables)
 from tables import SETTLING, settling_table
 
 # ---- settled marks
@@ -88,6 +90,37 @@ def horizon(b):
     return max(length for length in range(1, n * n + 1) if k**length <= 512)
 
 
+# ---- proofs
+
+
+def of_states(b, d):
+    return [reading(b, d, q, marks_by_series) for q in range(b[0])]
+
+
+def blocks_by_series(b, d):
+    """For each state the lowest that reads the same behind every series of up to n messages."""
+    reads, behind = of_states(b, d), []
+    for q in range(b[0]):
+        behind.append([reads[p] for p in states_after([*b[:2], q, *b[3:]], b[0])])
+    return [behind.index(row) for row in behind]
+
+
+def proof_by_series(b, faults, d, blocks):
+    """The refusal of a proof of an accepted table, or None. A state is reached if a series of n messages or fewer ends
+    in it."""
+    n, k = b[:2]
+    if len(blocks) != n:
+        return 14, len(blocks)
+    reads, led = of_states(b, d), [[run(b, q, [a]) for a in range(k)] for q in range(n)]
+    together = [(q, p) for q, p in itertools.product(range(n), repeat=2) if p < q and blocks[p] == blocks[q]]
+    parted = lambda q, step: blocks[run(b, q, sent_by(step))] != blocks[run(b, q, received_by(step))]
+    every = itertools.product(sorted(set(states_after(b, n))), fault_steps(k))
+    no = next(((15, q) for q in range(n) if not blocks[q] < n), None)
+    no = no or next(((16, q) for q, p in together if reads[p] != reads[q]), None)
+    no = no or next(((17, q) for q, p in together for i, j in zip(led[p], led[q]) if blocks[i] != blocks[j]), None)
+    return no or next(((18, q) for q, step in every if step[1] & faults and parted(q, step)), None)
+
+
 # ---- the questions
 
 
@@ -97,10 +130,15 @@ def areas(w):
     return {room + 3, room, room - 1, 0}
 
 
+@of_body
+def fault_witnesses(b):
+    """By each reading the first witness of each kind, for a fault question."""
+    return {d: first_series(list(b), d, 2 * b[0] - 1, differ) for d in READINGS}
+
+
 def fault_questions(b):
     """Each reading and set, and the card."""
-    for d in READINGS:
-        first = first_series(b, d, 2 * b[0] - 1, differ)
+    for d, first in fault_witnesses(b).items():
         for faults in range(16):
             w = first_of(first, faults)
             yield from (([4, faults, d, room] + b, finding(b, d, w, room, FAULT, marks_by_series)) for room in areas(w))
@@ -125,6 +163,22 @@ def trust_questions(b):
             w = first_of(first, faults)
             if w or horizon(b) == b[0] ** 2:
                 yield from (ask_trust(b, faults, d, verdict, room, w, marks_by_series) for room in areas(w))
+
+
+def proof_questions(b):
+    """Each reading and set: the states that are never told apart, as they are answered and as a proof; and every proof
+    if there are at most 3 states. Some proof is accepted, and that one is, exactly if the table is immune."""
+    n = b[0]
+    for d, first in fault_witnesses(b).items():
+        blocks = blocks_by_series(b, d)
+        yield from (ask_blocks(b, d, room, lambda *_: blocks) for room in (n - 1, n, n + 3))
+        proofs = [blocks] + [list(proof) for proof in itertools.product(range(n), repeat=n) if n <= 3]
+        for faults in range(16):
+            asked = [ask_proof(b, faults, d, proof, proof_by_series) for proof in proofs]
+            accepted = [answer == "accepted" for _, answer in asked]
+            immune = first_of(first, faults) is None
+            assert accepted[0] == any(accepted) == immune, (b, faults, d)
+            yield from asked
 
 
 def spread(r, b):
@@ -205,7 +259,7 @@ def main():
     r, asked = random.Random(6), []
     for b in tables:
         of_table = [*fault_questions(b), *trust_questions(b)]
-        asked += of_table + [*spread_questions(r, b, of_table)]
+        asked += of_table + [*spread_questions(r, b, of_table), *proof_questions(b)]
     total = compare(asked)
     distance, farther = (max(int(answer.split()[2]) for _, answer in asked if answer.startswith(found + " "))
                          for _, found in (FAULT, TRUST))

@@ -6,12 +6,13 @@ import random
 import brute
 import model
 import reference
-from reference import (CORRUPTION, LOSS, REPEAT, SWAP, Refused, classes, fault, judge, listing, step, trace, trust,
-                       write_collection)
+from reference import (CORRUPTION, LOSS, REPEAT, SWAP, Refused, blocks, classes, fault, judge, listing, proof, step,
+                       trace, trust, write_collection)
 from rings import rings
-from tables import (A, B, C, D, E, G, H, HARMED_EARLIER, LOWER_TRACE_HARMED, LOWER_TRACE_SWAPPED, SETTLING,
-                    THREE_IN_A_ROW, UGLY_FURTHER_ON, UGLY_UNREACHABLE, UNREACHABLE_HARM, UNREACHED_SETTLES, collection,
-                    far_table, random_table, settling_table, table)
+from tables import (A, B, C, D, E, G, H, HARMED_EARLIER, LOWER_TRACE_HARMED, LOWER_TRACE_SWAPPED, NAMED, SETTLING,
+                    THREE_IN_A_ROW, UGLY_FURTHER_ON, UGLY_UNREACHABLE, UNREACHABLE_HARM, UNREACHED_DIFFER,
+                    UNREACHED_SETTLES, collection, far_table, named_anew, near_proofs, random_table, settling_table,
+                    table, with_copies)
 
 
 def answer(call, *arguments):
@@ -171,6 +172,67 @@ def trust_refusals():
     for number, faults, reading, verdict in orders:
         check(answer(trust, A, faults, reading, verdict, 0), (number, 0), f"the order: {number}")
         check(answer(trust, A[:-1], faults, reading, verdict, 0), (4, 8), f"4 before {number}")
+
+
+def proved():
+    """Proofs that the specification writes out, the order of their questions, and what their numbers can be."""
+    for faults, reading, given, wanted in (
+            (12, 3, [0, 1], None), (12, 3, [1, 0], None), (12, 3, [0, 0], (16, 1)), (12, 3, [0], (14, 1)),
+            (12, 3, [2, 0], (15, 0)), (12, 3, [0, 1, 1], (14, 3)), (1, 3, [0, 1], (18, 0)), (12, 6, [0, 1], None),
+            (16, 5, [9], (9, 0)), (15, 5, [9], (10, 0)), (15, 3, [9], (14, 1)), (15, 3, [9, 9], (15, 0)),
+            (15, 3, [0, 256], (15, 1)), (15, 3, [0, 10**40], (15, 1)), (15, 3, [1, 1], (16, 1)), (15, 3, [], (14, 0))):
+        check(answer(proof, A, faults, reading, given), wanted, ("A", faults, reading, given))
+    for reading in (3, 6):
+        check(answer(proof, E, SWAP, reading, [0, 0, 1]), (17, 1), "E, one block for 0 and 1")
+        check(answer(proof, UNREACHABLE_HARM, 15, reading, [0, 1, 2]), None, "18 asks no unreachable state")
+        check(answer(proof, A[:-1], 16, reading, []), (4, 8), "4 before 9")
+        check((answer(blocks, A[:-1], reading), answer(blocks, A, reading + 1)), ((4, 8), (10, 0)), "blocks, refused")
+    for reading, number in ((3, 17), (6, 16)):
+        check(answer(proof, UNREACHED_DIFFER, 15, reading, [0, 1, 1, 3]), (number, 2), "17 asks unreachable states")
+        check(answer(proof, G, 0, reading, [0, 1, 2, 1, 4]), (number, 3), "G, one block for 1 and 3")
+    for body, by_marks, by_classes in ((D, [0], [0]), (E, [0, 1, 2], [0, 1, 2]), (H, [0, 0], [0, 0]),
+                                       (UNREACHED_DIFFER, [0, 0, 2, 3], [0, 0, 2, 3]),
+                                       (HARMED_EARLIER, [0, 1, 1], [0, 1, 1])):
+        check((blocks(body, 3), blocks(body, 6)), (by_marks, by_classes), (body.hex(), "blocks"))
+
+
+def check_proofs(body, rng, sets, asked=None):
+    """Which states are never told apart, and proofs near that one, all or some, by model.py. The right one is accepted
+    exactly if the table is immune."""
+    b = list(body)
+    for reading in (3, 6):
+        alike = blocks(body, reading)
+        check(alike, model.never_told_apart(b, reading), (body.hex(), reading, "blocks"))
+        for faults in sets:
+            immune = fault(body, faults, reading, ROOM) is None
+            check(answer(proof, body, faults, reading, alike) is None, immune, (body.hex(), faults, reading, "immune"))
+        given = list(near_proofs(rng, alike))
+        for near in given if asked is None else given[:6] + rng.sample(given, asked):
+            faults = rng.choice(sets)
+            wanted = model.proof_refusal(b, faults, reading, near)
+            check(answer(proof, body, faults, reading, near), wanted, (body.hex(), faults, reading, near))
+
+
+def proofs():
+    """Small tables, by every series of messages as well; larger ones; and tables of up to 128 states, some of which
+    have many states that are never told apart."""
+    rng = random.Random("proofs")
+    small = [bytes(b) for b in model.small_tables()] + [random_table(rng, 3, 2) for _ in range(60)]
+    for body in small:
+        for reading in (3, 6):
+            check(blocks(body, reading), brute.blocks_by_series(list(body), reading), (body.hex(), "blocks by series"))
+            for near, faults in itertools.product(itertools.product(range(body[0]), repeat=body[0]), (0, 4, 8, 11)):
+                wanted = brute.proof_by_series(list(body), faults, reading, near)
+                check(answer(proof, body, faults, reading, near), wanted, (body.hex(), faults, reading, near))
+    sizes = [(rng.randint(3, 9), rng.randint(1, 4)) for _ in range(40)]
+    larger = [make(rng, n, k) for make in (random_table, settling_table) for n, k in sizes]
+    larger += [with_copies(rng, rng.choice(NAMED), rng.randint(5, 9), split)[0] for split in (False, True) * 20]
+    for body in small[:182] + larger:
+        check_proofs(body, rng, range(16) if body[0] < 3 else (0, LOSS, CORRUPTION, REPEAT, SWAP, 12, 15))
+    for n in (63, 64, 65, 127, 128):
+        wide = [named_anew(rng, *with_copies(rng, rng.choice([A, B, C, E]), n, True))[0], far_table(rng, n, 3)]
+        for body in wide + [make(rng, n, rng.randint(3, 4)) for make in (random_table, settling_table)]:
+            check_proofs(body, rng, (REPEAT, SWAP, rng.randrange(16)), 20)
 
 
 def collections():
@@ -351,6 +413,8 @@ if __name__ == "__main__":
     counts()
     trusted()
     trust_refusals()
+    proved()
+    proofs()
     collections()
     enumeration()
     searches()

@@ -1,16 +1,18 @@
 #!/usr/bin/env python3
 """Compares the answers of the program `probe` with a model: judging, classes, steps, traces, what the fault question
-refuses, the writer, and which verdicts can be trusted; of tables whose states settle also the fault question and the
-card."""
+refuses, the writer, which verdicts can be trusted, proofs of immunity, and which states are never told apart; of tables
+whose states settle also the fault question and the card."""
 import itertools
 import random
 import struct
 
-from model import (FAULT, KINDS, READINGS, REPEAT, SAMPLES, ask_trust, card, compare, count, differ, drawn,
-                   fault_refusal, finding, first_of, first_witnesses, judge, listed, misread, monitorability, reach,
-                   reading, refusal, run, settled, small_tables, state_class, successors)
+from model import (FAULT, KINDS, READINGS, REPEAT, SAMPLES, SWAP, all_readings, ask_blocks, ask_proof, ask_trust, card,
+                   compare, count, differ, disagreeing, drawn, fault_refusal, fault_steps, finding, first_of,
+                   first_witnesses, judge, listed, misread, monitorability, never_told_apart, proof_refusal, reach,
+                   reading, received_by, refusal, run, sent_by, settled, small_tables, state_class, successors)
 from rings import rings
-from tables import SETTLING, far_table, settling_table, table
+from tables import (NAMED, SETTLING, UNREACHED_DIFFER, far_table, named_anew, near_proofs, settling_table, table,
+                    with_copies)
 
 # The longest area that the program lends to a witness against a verdict.
 LENT = 1024
@@ -129,6 +131,8 @@ def small_questions():
         yield ask_judge(b)
         for room in (0, n - 1, n, n + 2):
             yield ask_classes(b, room)
+        for d, room in itertools.product((3, 5, 6), (0, n - 1, n, n + 2)):
+            yield ask_blocks(b, d, room)
         for d, q, a in itertools.product((3, 6), range(n + 1), range(k + 1)):
             yield ask_step(b, d, q, a)
         for d, length in itertools.product((3, 5, 6), range(4)):
@@ -144,6 +148,10 @@ def damaged_questions():
             yield ask_classes(damaged, 8)
             yield ask_step(damaged, 6, 0, 0)
             yield ask_trace(damaged, 3, [0, 0, 1])
+            yield ask_proof(damaged, 15, 6, list(range(b[0])))
+            yield ask_proof(damaged, 16, 5, [255])
+            yield ask_blocks(damaged, 3, 8)
+            yield ask_blocks(damaged, 5, 0)
             if judge(damaged):
                 yield ask_refused(damaged, 15, 6, 8)
                 yield ask_refused(damaged, 16, 5, 0)
@@ -153,6 +161,8 @@ def damaged_questions():
         for length in range(len(b) + 2):
             cut = (b + [0, 0])[:length]
             yield ask_judge(cut)
+            yield from (ask_proof(cut, 99, 5, proof) for proof in ([], [0], list(range(b[0])), [255] * 9))
+            yield from (ask_blocks(cut, 5, room) for room in (0, 3))
             if judge(cut):
                 yield ask_refused(cut, 99, 5, 3)
                 yield ask_trust(cut, 99, 5, 255, 3)
@@ -169,6 +179,10 @@ def refused_questions():
             yield ask_trust(b, faults, d, d, room)
         for faults, d, room in itertools.product(range(16), READINGS, (0, 3)):
             yield from (ask_trust(b, faults, d, verdict, room) for verdict in (d, 255))
+        proofs = [], [0], [255], [0] * b[0], list(range(b[0])), [255] * b[0], [0] * 255
+        for faults, d, proof in itertools.product((0, 15, 16, 17, 99, 255), (0, 3, 5, 6, 7, 255), proofs):
+            yield ask_proof(b, faults, d, proof)
+        yield from (ask_blocks(b, d, room) for d in (0, 1, 2, 4, 5, 7, 255) for room in (0, b[0] - 1, b[0], 255))
     e = SAMPLES[4]
     for d, room in itertools.product((3, 6), (0, 1, 2)):
         yield ask_refused(e, 8, d, room)
@@ -326,7 +340,85 @@ def settled_questions():
                     yield from ask_trusted(b, faults, d, verdict, first)
 
 
+def unreached_says(b, faults, d, proof, no):
+    """What the states that are not reached have to say of a proof with this refusal or none: that they alone make it
+    refused with 17, or that they are not asked with 18; or nothing."""
+    reached = sorted(reach(b, b[2]))
+    if no and no[0] == 17:
+        into = [[proof[p] for p in successors(b, q)] for q in reached]
+        return None if disagreeing([proof[q] for q in reached], into) else "17"
+    others = itertools.product(set(range(b[0])) - set(reached), fault_steps(b[1])) if no is None else ()
+    split = (q for q, step in others if step[1] & faults and
+             proof[run(b, q, sent_by(step))] != proof[run(b, q, received_by(step))])
+    return None if next(split, None) is None else "18"
+
+
+def tally(kinds, questions):
+    """The questions on proofs, after it is noted which answers they have."""
+    for b, faults, d, proof in questions:
+        no = proof_refusal(b, faults, d, proof)
+        kinds.add(str(no[0]) if no else "accepted")
+        kinds.add(f"{unreached_says(b, faults, d, proof, no)} of states not reached")
+        yield ask_proof(b, faults, d, proof, lambda *_: no)
+
+
+def small_proofs(r):
+    """Proofs near the right one, of small tables: some by every set, the others by one."""
+    tables = [*NAMED, *[b for b in SETTLING if b[0] < 9], UNREACHED_DIFFER]
+    tables += [settling_table(r, r.randint(3, 7), r.randint(1, 3)) for _ in range(12)]
+    tables += [undecided_table(r, 7, 3) for _ in range(30)]
+    tables += [with_copies(r, r.choice(NAMED), r.randint(5, 9), r.random() < 0.5)[0] for _ in range(30)]
+    for b in small_tables() + [list(b) for b in tables]:
+        for d in READINGS:
+            for i, proof in enumerate(near_proofs(r, never_told_apart(b, d))):
+                yield from ((b, faults, d, proof) for faults in (range(16) if i < 6 else [r.randrange(16)]))
+
+
+def stands(b, faults):
+    """Whether a table is immune to a set by both readings, though it can come to readings that differ."""
+    told = len({all_readings(b, 3)[q] for q in reach(b, b[2])}) > 1
+    return told and all(proof_refusal(b, faults, d, never_told_apart(b, d)) is None for d in READINGS)
+
+
+def copied_table(r, size, faults):
+    """A table of this size that is immune to the set, and of which many states are never told apart."""
+    drawn_tables = (undecided_table(r, 6, 3) for _ in itertools.count())
+    base = next(b for b in drawn_tables if stands(b, faults))
+    copies = with_copies(r, bytes(base), size, r.random() < 0.7)
+    return list(named_anew(r, *copies)[0])
+
+
+def large_proofs(r):
+    """The same of tables of about as many states as a word has bits, and of about the most: of immune ones every proof
+    and of others some, by one set."""
+    for n in (63, 64, 65, 127, 128):
+        for faults in (REPEAT, SWAP, REPEAT + SWAP):
+            b, d = copied_table(r, n, faults), r.choice(READINGS)
+            yield from ((b, faults, d, proof) for proof in near_proofs(r, never_told_apart(b, d)))
+    for b, d in itertools.product(map(list, border_tables(r)), READINGS):
+        proofs = list(near_proofs(r, never_told_apart(b, d)))
+        yield from ((b, r.randrange(16), d, proof) for proof in proofs[:6] + r.sample(proofs[6:], 20))
+
+
+def proof_questions():
+    """Such proofs. Of small tables and of large ones each refusal comes, and states that are not reached have a say."""
+    for seed, questions in ((26, small_proofs), (27, large_proofs)):
+        kinds = set()
+        yield from tally(kinds, questions(random.Random(seed)))
+        said = {f"{says} of states not reached" for says in (None, 17, 18)}
+        assert kinds == {"accepted", *map(str, range(14, 19)), *said}, kinds
+
+
+def alike_questions():
+    """Which states are never told apart: large tables of all kinds, with areas around n, and small ones that settle."""
+    r = random.Random(28)
+    tables = [*border_tables(r), *[copied_table(r, n, REPEAT) for n in (63, 64, 65, 127, 128)], *SETTLING]
+    tables += [table(*rings(one, two)) for one, two in ((10, 12), (58, 66))] + [random_table(r) for _ in range(60)]
+    for b, d in itertools.product(map(list, tables), READINGS):
+        yield from (ask_blocks(b, d, room) for room in (b[0] - 1, b[0], r.randint(b[0] + 1, 255)))
+
+
 total = compare(itertools.chain(small_questions(), damaged_questions(), refused_questions(), random_questions(),
                                 fallen_questions(), written_questions(), trust_questions(), border_questions(),
-                                settled_questions()))
+                                settled_questions(), proof_questions(), alike_questions()))
 print(f"compare.py: {total} answers compared with the model, all equal")

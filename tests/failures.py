@@ -35,7 +35,9 @@ CALLS = [(["listing"], SAMPLE), (["card"], SAMPLE), (["card", "20", "21"], SAMPL
          (["ask", "proof", "0", "3", "0", "1", "2"], E), (["ask", "blocks", "3"], E),
          (["ask", "proof", "15", "6", stored("long proof", [0] * 262144)], E),
          (["ask", "why", "8"], b""), (["listing", "--help"], b""), (["card", "--help"], b""), (["ask", "--help"], b""),
-         (WRITE, E + E), (PACK, b""), (["pack", "--help"], b"")]
+         (WRITE, E + E), (PACK, b""), (["pack", "--help"], b""),
+         (["ask", "rule", "20", "proof", "12", "6", stored("proof", [0, 1, 2])], SAMPLE),
+         (["ask", "rule", "20", "blocks", "6"], SAMPLE)]
 
 # The greatest stack, in KiB, that a call may need: of `listing`; of `card` and most forms of `ask`, which hold the
 # longest witness as well; and of the rest. For `ask trace`, `ask proof` and `ask write` the room for 262,144 bytes
@@ -129,9 +131,9 @@ def unreadable_file():
     if os.geteuid() != 0:
         failing.append((locked, f"{locked[1:]}: Permission denied"))
     for word, reason in failing:
-        for words, data in ((["ask", "trace", "3", word], E), (["ask", "rule", "20", "trace", "6", word], SAMPLE),
-                            (["ask", "proof", "1", "3", word], E),
-                            (["ask", "rule", "20", "proof", "1", "6", word], SAMPLE)):
+        forms = ["trace", "3", word], ["proof", "12", "3", word]
+        calls = [(["ask", *form], E) for form in forms] + [(["ask", "rule", "20", *form], SAMPLE) for form in forms]
+        for words, data in calls:
             with tempfile.TemporaryFile() as file:
                 file.write(data)
                 file.seek(0)
@@ -156,10 +158,13 @@ def small_stack():
     calls = CALLS + [(["listing"], LARGE), (["card"], LARGE), (["card", "x"], SAMPLE), (["ask"], E),
                      (["ask", "rule", "1", "fault", "4", "6", str(ROOM)], LARGE), (["ask", "collection"], LARGE),
                      (["ask", "trust", "4", "3", "1", "9" * 99], RINGS[-1]),
-                     (["ask", "blocks", "6"], RINGS[-1]), (["ask", "rule", "1", "blocks", "3"], LARGE),
-                     (["ask", "rule", "1", "proof", "15", "6", *map(str, range(128))], LARGE),
                      (["ask", "rule", "1", "trust", "15", "6", "5", str(ROOM)], LARGE),
                      (["ask", "rule", "512", "trace", "6", stored("longest", [0] * 262144)], LARGE),
+                     (["ask", "rule", "512", "proof", "15", "6", stored("longest proof", [0] * 262144)], LARGE),
+                     (["ask", "rule", "1", "proof", "0", "6", *map(str, range(128))], LARGE),
+                     (["ask", "rule", "2", "proof", "15", "3", *["1"] * 999], LARGE),
+                     (["ask", "proof", "15", "3", *map(str, range(127))], RINGS[-1]),
+                     (["ask", "rule", "1", "blocks", "6"], LARGE), (["ask", "blocks", "3"], RINGS[-1]),
                      (["ask", "body", "1"], LARGE), (["ask", "write", "9" * 99, *["1"] * 513, "/", *["0"] * 512], LARGE),
                      (["ask", "write", "100000", *map(str, range(512)), "/", *["12"] * 512], E * 512),
                      (["pack", *[word for i in range(512) for word in (str(i), PACK[2])]], b""),

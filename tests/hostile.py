@@ -25,15 +25,16 @@ def number(word):
     return int((word.lstrip("0") or "0")[:21])
 
 
-# The greatest number of messages in a trace.
-MESSAGE_LIMIT = 262144
+# The greatest number of messages in a trace, and of blocks in a proof.
+LISTED_LIMIT = 262144
 
 # The greatest length of a list of rule numbers or body lengths, and the most bytes of the bodies that `pack` takes.
 LIST_LIMIT = 1024
 BODIES_LIMIT = 65535
 
-# How many numbers follow the word of a form. A trace has one at least.
-COUNTS = {"judge": 0, "classes": 1, "step": 3, "fault": 3, "trust": 4}
+# How many numbers follow the word of a form; and of a form that ends with a list, how many stand before the list.
+COUNTS = {"judge": 0, "classes": 1, "step": 3, "fault": 3, "trust": 4, "blocks": 1}
+LISTS = {"trace": 1, "proof": 2}
 
 # The words of each refusal, which tests/readme.py compares with those of `ask why`.
 with open("docs/FORMAT.md", encoding="utf-8") as format_text:
@@ -44,17 +45,23 @@ def are_numbers(words):
     return all(re.fullmatch("[0-9]+", word) for word in words)
 
 
+def list_of(words):
+    """The words of the list with which a form ends."""
+    return words[1 + LISTS[words[0]]:]
+
+
 def named_file(words):
-    """The file that a trace names in place of messages, None if it does not."""
-    return words[2][1:] if words[:1] == ["trace"] and len(words) == 3 and words[2].startswith("@") and words[2] != "@" else None
+    """The file that a form names in place of a list, None if it does not."""
+    listed = list_of(words) if words and words[0] in LISTS else []
+    return listed[0][1:] if len(listed) == 1 and listed[0].startswith("@") and listed[0] != "@" else None
 
 
 def is_form(words):
     """Whether the words are a question that can be asked of a body."""
     if named_file(words) is not None:
-        words = words[:2]
+        words = words[:-1]
     command, numbers = (words or [""])[0], words[1:]
-    right_count = len(numbers) >= 1 if command == "trace" else COUNTS.get(command) == len(numbers)
+    right_count = len(numbers) >= LISTS[command] if command in LISTS else COUNTS.get(command) == len(numbers)
     return right_count and are_numbers(numbers)
 
 
@@ -62,19 +69,21 @@ class Unreadable(Exception):
     """A file that is not read, or a list that is too long: what standard error must say of it."""
 
 
-def messages_of(words):
-    """The messages of a trace."""
+def listed_numbers(words):
+    """The messages of a trace or the blocks of a proof; none of a form without a list."""
+    if words[0] not in LISTS:
+        return []
     name = named_file(words)
     if name is None:
-        return [number(word) for word in words[2:]]
+        return [number(word) for word in list_of(words)]
     try:
         with open(name, "rb") as file:
-            messages = file.read()
+            listed = list(file.read())
     except OSError as error:
         raise Unreadable(f"ask: {name}: {os.strerror(error.errno)}\n")
-    if len(messages) > MESSAGE_LIMIT:
-        raise Unreadable(f"ask: {name}: more than {MESSAGE_LIMIT} bytes\n")
-    return messages
+    if len(listed) > LISTED_LIMIT:
+        raise Unreadable(f"ask: {name}: more than {LISTED_LIMIT} bytes\n")
+    return listed
 
 
 def counted(count):
@@ -94,8 +103,11 @@ def form_answer(words, body):
     """The answer to a question of a body, without the line's end."""
     command = words[0]
     if command == "trace":
-        answer = reference.trace(body, number(words[1]), messages_of(words))
+        answer = reference.trace(body, number(words[1]), listed_numbers(words))
         return f"reading {answer.reading} count {counted(answer.count)}"
+    if command == "proof":
+        reference.proof(body, number(words[1]), number(words[2]), listed_numbers(words))
+        return "accepted"
     numbers = [number(word) for word in words[1:]]
     if command == "judge":
         reference.judge(body)
@@ -104,6 +116,8 @@ def form_answer(words, body):
         answer = reference.classes(body, *numbers)
         listed = " ".join(map(str, answer.classes))
         return f"monitorability {MONITORABILITY[answer.monitorability]} reached {answer.reached} classes {listed}"
+    if command == "blocks":
+        return " ".join(["blocks", *map(str, reference.blocks(body, *numbers))])
     if command == "step":
         return "state {} reading {}".format(*reference.step(body, *numbers))
     if command == "trust":
@@ -212,7 +226,7 @@ def expected(program, words, data):
     try:
         if not is_question(words):
             return "", "usage: ask "
-        messages_of(words[2:] if words[0] == "rule" else words) if "trace" in words else None
+        listed_numbers(words[2:] if words[0] == "rule" else words)
         reference.question(len(data) <= INPUT_LIMIT, 26, 0)
         return ask_answer(words, data) + "\n", ""
     except Unreadable as error:

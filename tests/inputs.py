@@ -7,8 +7,9 @@ import tempfile
 import reference
 from reference import INPUT_LIMIT
 from rings import rings
-from tables import (A, B, C, D, E, NAMED, SETTLING, collection, damaged, far_table, in_a_row, late_repeat, packed,
-                    random_table, settling, settling_table, table)
+from tables import (A, B, C, D, E, NAMED, SETTLING, UNREACHED_DIFFER, collection, damaged, far_table, in_a_row,
+                    late_repeat, named_anew, near_proofs, packed, random_table, settling, settling_table, table,
+                    with_copies)
 
 ROOM = 2000         # an area that holds every answer here
 WIDE = [2**8, 2**8 + 1, 2**16, 2**32, 2**32 + 1, 2**32 + 3, 2**63, 2**64 - 1, 2**64, 2**64 + 1, 2**64 + 3, 2**64 + 6,
@@ -281,6 +282,98 @@ def traces_in_files(rng):
     yield ask(E, "classes", sound)
 
 
+# ---- proofs, and states that are never told apart --------------------------------------------------------
+
+def proofs_of_small_tables(rng):
+    """Proofs near the right one: some under each fault, under none and under all, the others under any set."""
+    copies = [with_copies(rng, rng.choice(NAMED), rng.randint(4, 7), split)[0] for split in (False, True) * 3]
+    for body in NAMED + [UNREACHED_DIFFER] + [body for body in SETTLING if 3 < body[0] < 7][-4:] + copies:
+        for reading in (3, 6):
+            for i, proof in enumerate(near_proofs(rng, reference.blocks(body, reading))):
+                sets = (0, 1, 2, 4, 8, 15) if i < 6 else [rng.randint(0, 15)]
+                yield from (ask(body, "proof", faults, reading, *proof) for faults in sets)
+
+
+def large_alike(rng, n):
+    """Tables of n states, with and without states that are never told apart."""
+    yield named_anew(rng, *with_copies(rng, rng.choice([A, B, C, E]), n, True))[0]
+    yield rng.choice([random_table, settling_table, far_table])(rng, n, rng.randint(3, 4))
+
+
+def proofs_of_all_sizes(rng):
+    """Some proofs of tables of many sizes, and how their states are told apart."""
+    for n in (*range(4, 63, 9), 63, 64, 65, 96, 126, 127, 128):
+        for body in large_alike(rng, n):
+            for reading in (3, 6):
+                proofs = list(near_proofs(rng, reference.blocks(body, reading)))
+                for proof in proofs[:6] + rng.sample(proofs[6:], 10):
+                    yield ask(body, "proof", rng.choice([4, 8, 12, 15, rng.randint(0, 15)]), reading, *proof)
+
+
+def states_told_apart(rng):
+    """`blocks` at every number of states, and of tables whose states settle or are told apart late."""
+    bodies = NAMED + [UNREACHED_DIFFER, *SETTLING, *RINGS, table(*late_repeat(128, 16)), table(*in_a_row(128, 16))]
+    bodies += [rng.choice([random_table, settling_table])(rng, n, rng.randint(1, 16)) for n in range(1, 129)]
+    bodies += [body for n in range(4, 129, 10) for body in large_alike(rng, n)]
+    for body in bodies:
+        yield from (ask(body, "blocks", reading) for reading in (3, 6))
+
+
+def wrong_blocks(rng):
+    """Numbers of no state at each place, in bytes, in 64 bits and far beyond; too few and too many blocks; the order of
+    9, 10, 14 and 15; and words that are no numbers."""
+    rules = collection([(7, A), (9, E)])
+    for body, right in ((A, [0, 1]), (E, [0, 1, 2]), (D, [0]), (A[:-1], [0, 1])):
+        for place in range(len(right)):
+            for wrong in (len(right) - 1, len(right), 128, 255, *WIDE, "00", "0" * 99 + "1", "9" * 9999):
+                yield ask(body, "proof", 12, rng.choice([3, 6]), *right[:place], wrong, *right[place + 1:])
+            for wrong in ("", "x", "-1", "+1", "1 ", "0x0", "@", "@@", "/", "1.0"):
+                yield ask(body, "proof", 12, 3, *right[:place], wrong, *right[place + 1:])
+                yield ask(rules, "rule", 9, "proof", 12, 3, *right[:place], wrong, *right[place + 1:])
+        for length, wrong in itertools.product((0, 1, 2, 3, 4, 128, 255, 256, 257, 300, 10000), (0, 255, 2**64)):
+            yield ask(body, "proof", rng.choice([12, 15]), rng.choice([3, 6]), *[wrong] * length)
+        yield from (ask(body, "proof", 12, 3, *[0] * length) for length in (65536, 65537, 65538, 70000))
+        for faults, reading in itertools.product((0, 15, 16, 255, 256, 2**64), (0, 3, 5, 6, 259, 2**64 + 3)):
+            for proof in ([], right, [2**64] * len(right), [9, *right]):
+                yield ask(body, "proof", faults, reading, *proof)
+                yield ask(rules, "rule", rng.choice([7, 8, 9]), "proof", faults, reading, *proof)
+        for reading in (*range(9), 255, 256 + 3, 256 + 6, *WIDE, "03", "0" * 99 + "6"):
+            yield ask(body, "blocks", reading)
+            yield ask(rules, "rule", rng.choice([7, 8, 9]), "blocks", reading)
+
+
+def proofs_in_files(rng):
+    """Blocks from a file: the right ones, others, none, one more, as many as are taken and one more; a file that is not
+    there, a folder, no name; and a file beside other blocks, which is no form."""
+    rules = collection([(7, A), (9, E), (11, E[:-1])])
+    many = [0] * 262144
+    short = [[0, 1, 2], [2, 0, 1], [0, 0, 1], [0, 0, 0], [0, 1], [], [0, 1, 2, 2], [3, 0, 1], [0, 1, 255], [255] * 3,
+             [0, 1, 2, 10], b"012", b"0 1 2\n"]
+    long = [many[:length] for length in (128, 255, 256, 257, 259, 65537, 262143, 262144)] + [many + [0], many * 2]
+    for i, blocks in enumerate(short + long):
+        name = stored(f"blocks {i}", blocks)
+        for faults, reading in ((12, 3), (4, 6), (0, 3), (16, 3), (0, 5)):
+            yield ask(E, "proof", faults, reading, name)
+            yield ask(rules, "rule", rng.choice([7, 8, 9, 11]), "proof", faults, reading, name)
+        yield ask(E[:-1], "proof", 12, 3, name)
+        yield ask(bytes(65537), "proof", 12, 3, name)
+    large = random_table(rng, 128, 16)
+    for blocks in near_proofs(rng, reference.blocks(large, 3)):
+        if rng.random() < 0.1:
+            yield ask(large, "proof", rng.randint(0, 15), 3, stored(f"large {rng.random()}", blocks))
+    right = stored("right", [0, 1, 2])
+    for word in ("@", "@" + FILES.name, right + "x", "@@", right + "/", "@" + "x" * 5000, "@tests/none"):
+        for data in (E, b"", bytes(65537)):
+            yield ask(data, "proof", 12, 3, word)
+        yield ask(rules, "rule", 9, "proof", 12, 3, word)
+    for words in ([12, 3, right, 1], [12, 3, 0, right], [12, 3, right, right], [12, right], [right], [right, 12, 3],
+                  [12, "x", right]):
+        yield ask(E, "proof", *words)
+        yield ask(rules, "rule", 9, "proof", *words)
+        yield ask(rules, "collection", "proof", *words)
+    yield from (ask(E, "blocks", *words) for words in ([right], [3, right], [right, 3]))
+
+
 # ---- refused tables and numbers --------------------------------------------------------------------------
 
 def damaged_bodies(rng, tables):
@@ -305,7 +398,8 @@ def damaged_in_calls(rng):
     """A damaged table is refused first, whatever the numbers of the call are."""
     calls = [["judge"], ["classes", 0], ["classes", 128], ["step", 5, 199, 99], ["step", 3, 0, 0], ["trace", 5, 99],
              ["trace", 3], ["fault", 16, 5, 0], ["fault", 15, 3, 0], ["fault", 15, 6, ROOM], ["trust", 16, 5, 99, 0],
-             ["trust", 15, 3, 0, 0], ["trust", 15, 6, 6, ROOM]]
+             ["trust", 15, 3, 0, 0], ["trust", 15, 6, 6, ROOM], ["proof", 16, 5], ["proof", 15, 3, 0],
+             ["proof", 15, 6, 999], ["blocks", 3], ["blocks", 5]]
     for body in damaged_bodies(rng, 10):
         yield ask(body, "judge")
         yield ask(body, *rng.choice(calls))
@@ -323,6 +417,8 @@ def lengths_and_counts(rng):
         yield ask(full[:length] + bytes(max(0, length - 2179)), "judge")
         yield ask(full[:length] + bytes(max(0, length - 2179)), "fault", 16, 5, 0)
         yield ask(full[:length] + bytes(max(0, length - 2179)), "trust", 15, 3, 3, 0)
+        yield ask(full[:length] + bytes(max(0, length - 2179)), "proof", 15, 6, *[127] * 128)
+        yield ask(full[:length] + bytes(max(0, length - 2179)), "blocks", 6)
 
 
 def random_bytes(rng):
@@ -336,6 +432,8 @@ def random_bytes(rng):
         yield ask(body(), "judge")
         yield ask(body(), "fault", rng.randint(0, 20), rng.randint(2, 7), rng.randint(0, 5))
         yield ask(body(), "trust", rng.randint(0, 20), rng.randint(2, 7), rng.randint(0, 7), rng.randint(0, 5))
+        yield ask(body(), "proof", rng.randint(0, 20), rng.randint(2, 7), *[rng.randrange(3)] * rng.randint(0, 3))
+        yield ask(body(), "blocks", rng.randint(2, 7))
         yield ask(body(), "collection")
         yield listing(body())
 
@@ -352,9 +450,12 @@ def numbers_around_limits(rng):
             for reading in (3, 5, 6):
                 yield ask(body, "fault", faults, reading, rng.choice([0, ROOM]))
                 yield ask(body, "trust", faults, reading, rng.choice([0, 1, reading]), rng.choice([0, ROOM]))
+                yield ask(body, "proof", faults, reading, *range(n))
         for reading in readings:
             yield ask(body, "fault", rng.choice([15, 16]), reading, ROOM)
             yield ask(body, "trust", rng.choice([15, 16]), reading, rng.choice([0, reading]), ROOM)
+            yield ask(body, "proof", rng.choice([15, 16]), reading, *range(n))
+            yield ask(body, "blocks", reading)
             yield ask(body, "step", reading, rng.choice([0, n]), rng.choice([0, k]))
             yield ask(body, "trace", reading, *rng.choice([[], [0], [0, k]]))
         for verdict in list(range(9)) + [255] + WIDE:
@@ -383,6 +484,9 @@ def leading_zeros(rng):
         yield ask(body, "step", zeros + "6", zeros + "1", zeros + "1")
         yield ask(body, "trace", zeros + "3", zeros + "1", zeros + "1", zeros)
         yield ask(body, "trace", zeros + "3", zeros + "1", zeros + "2")
+        yield from (ask(body, "proof", zeros + "4", zeros + "3", zeros, zeros + "1", zeros + x) for x in ("2", "3"))
+        yield ask(body, "proof", zeros, zeros + "3", zeros, zeros + "1", zeros + "2")
+        yield from (ask(body, "blocks", zeros + x) for x in ("3", "4", "6"))
     for long in ("9" * 30, "1" + "0" * 5000, "3" * 100000):
         yield ask(body, "classes", long)
         yield ask(body, "fault", long, 5, 0)
@@ -394,6 +498,8 @@ def leading_zeros(rng):
         yield ask(body, "step", 3, long, 0)
         yield ask(body, "step", 3, 0, long)
         yield ask(body, "trace", 3, 0, long)
+        yield from (ask(body, "proof", *words) for words in ([long, 3], [8, long], [8, 3, long], [0, 3, 0, 1, long]))
+        yield ask(body, "blocks", long)
 
 
 def wrong_arguments(rng):
@@ -404,7 +510,13 @@ def wrong_arguments(rng):
              "rule 1 collection", "rule 1 rule 1 judge", "rule 1 why 1", "rule 1 --help", "rule 1 classes", "rule 1 step 3 0",
              "rule 1 trace", "rule 1 fault 1 3", "rule 1 trace 3 x", "why", "why x", "why 1 2", "trust", "trust 1",
              "trust 1 3", "trust 1 3 0", "trust 1 3 0 9 9", "trust fault 1 3 9", "TRUST 1 3 0 9", "rule 1 trust 1 3 0",
-             "rule 1 trust 1 3 0 9 9", "rule 1 trust 1 3 x 9", "rule trust 1 3 0 9"]
+             "rule 1 trust 1 3 0 9 9", "rule 1 trust 1 3 x 9", "rule trust 1 3 0 9", "proof", "proof 1",
+             "PROOF 1 3 0 1", "proof proof 1 3", "proofs 1 3 0 1", "proo 1 3 0 1", "rule 1 proof", "rule 1 proof 1",
+             "rule proof 1 3 0 1", "rule 1 rule 1 proof 1 3 0 1", "rule x proof 1 3 0 1", "collection proof 1 3 0 1",
+             "collection proof", "proof 1 3 collection", "blocks", "blocks 3 3", "BLOCKS 3", "block 3",
+             "blocks blocks 3", "blocks 3 0 1", "rule 1 blocks", "rule 1 blocks 3 3", "rule blocks 3",
+             "rule x blocks 3", "collection blocks 3", "collection blocks", "body proof 1 3 0 1", "body blocks 3", "write proof 1 3",
+             "why proof"]
     calls = [line.split() for line in lines]
     # The last two: a digit of another script, and a byte that is no text.
     for bad in ("", " ", "-1", "+1", "1 ", " 1", "0x10", "1e3", "1.0", "1,000", "a", "3a", "9" * 30 + "x", "/", ":",
@@ -412,7 +524,9 @@ def wrong_arguments(rng):
         calls += [[bad], ["classes", bad], ["step", bad, "0", "0"], ["step", "3", "0", bad], ["trace", bad],
                   ["trace", "3", "0", bad], ["fault", bad, "3", "9"], ["fault", "1", "3", bad],
                   ["trust", bad, "3", "0", "9"], ["trust", "1", bad, "0", "9"], ["trust", "1", "3", bad, "9"],
-                  ["trust", "1", "3", "0", bad]]
+                  ["trust", "1", "3", "0", bad], ["proof", bad, "3", "0", "1"], ["proof", "1", bad, "0", "1"],
+                  ["proof", "1", "3", bad, "1"], ["proof", "1", "3", "0", bad], ["blocks", bad],
+                  ["rule", "1", "blocks", bad], ["rule", bad, "proof", "1", "3", "0", "1"]]
     for words in calls:
         for data in (A, b"", b"\0\0"):
             yield ask(data, *words)
@@ -518,6 +632,9 @@ def forms_for(rng, body):
     yield ["trace", rng.choice([3, 6]), *[rng.randrange(max(1, k)) for _ in range(rng.randint(0, 9))], message]
     yield ["fault", rng.choice([1, 2, 4, 8, 15, 16]), rng.choice([3, 6]), rng.choice([0, 2, ROOM])]
     yield ["trust", rng.choice([1, 2, 4, 8, 15, 16]), rng.choice([3, 6]), rng.randrange(4), rng.choice([0, 2, ROOM])]
+    proof = [0] * n if rng.random() < 0.3 else range(n + rng.choice([0, 0, 0, 1]))
+    yield ["proof", rng.choice([0, 4, 12, 15, 16]), rng.choice([3, 6, 3, 6, 5]), *proof]
+    yield ["blocks", rng.choice([3, 6, 5])]
 
 
 def rules_of_collections(rng):
@@ -719,7 +836,8 @@ def input_sizes(rng):
             yield from both(data)
             yield ask(data, "judge")
             yield ask(data, "trace", 3, 0)
-            forms = ["classes", 128], ["step", 3, 0, 0], ["fault", 16, 5, 0], ["trust", 16, 5, 9, 0]
+            forms = (["classes", 128], ["step", 3, 0, 0], ["fault", 16, 5, 0], ["trust", 16, 5, 9, 0],
+                     ["proof", 16, 5, 9], ["blocks", 5])
             yield ask(data, *rng.choice(forms))
 
 
@@ -733,7 +851,8 @@ def believed_marks(rng):
 GROUPS = [named_tables, small_listings, listings_of_all_sizes, far_listings, witnesses_of_small_tables,
           witnesses_of_all_sizes, areas_for_witnesses, trusted_verdicts, trust_questions, trust_of_all_sizes,
           far_misreadings, believed_marks, settled_listings, settled_answers, settled_damage, classes_of_tables,
-          steps_and_traces, fallen_verdicts, traces_in_files, damaged_in_listings, damaged_in_calls, lengths_and_counts,
+          steps_and_traces, fallen_verdicts, traces_in_files, proofs_of_small_tables, proofs_of_all_sizes,
+          states_told_apart, wrong_blocks, proofs_in_files, damaged_in_listings, damaged_in_calls, lengths_and_counts,
           random_bytes, numbers_around_limits, leading_zeros, wrong_arguments, cut_collections, altered_collections,
           counts_and_numbers, gaps_and_overlaps, random_collections, rules_of_collections, bodies_of_rules,
           written_lists, unequal_lists, wrong_bodies, many_rules, wrong_lists, packed_files, input_sizes]

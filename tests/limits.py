@@ -14,7 +14,8 @@ import sys
 import tempfile
 
 from model import KINDS, READINGS, answers, batches, listed
-from tables import A, collection, far_table, late_repeat, random_table, settling_table, table
+from tables import (A, collection, far_table, late_repeat, named_anew, near_proofs, random_table, settling_table, table,
+                    with_copies)
 
 PROGRAMS = os.path.join("target", "bin")
 PASSING, REFUSED = (1, 2, 63, 64, 65, 127, 128), (0, 129, 130, 191, 192, 255)
@@ -51,6 +52,8 @@ def probe_answers(n, body):
     yield [4, 15, 6, ROOM, *body], "immune" + listed([255] * ROOM), ROOM
     yield [5, 0, 0, 0, *body], f"{n} none - - - -", 0
     yield [7, 15, 6, 5, 3, 0, *body], "yes 255 255 255", 3
+    yield [8, 15, 6, n, *[max(n - 1, 0)] * n, *body], "accepted", 0
+    yield [9, 6, ROOM, 0, *body], f"written {n}" + listed([0] * n + [255] * (ROOM - n)), ROOM
 
 
 def check_sizes():
@@ -65,7 +68,10 @@ def check_sizes():
         line = f"7 {n} none - - - -" if passes else "7 refused 2 0"
         check(said("listing", data=rules)[0].decode().splitlines()[2], line, f"listing of {n} states")
         judged = b"accepted\n" if passes else b"refused 2 0\n"
-        check(said("ask", "judge", data=body)[0], judged, f"ask judge on {n} states")
+        for words in (["judge"], ["proof", 15, 6, *[max(n - 1, 0)] * n]):
+            check(said("ask", *words, data=body)[0], judged, f"ask {words[0]} on {n} states")
+        alike = " ".join(["blocks", *["0"] * n]) if passes else "refused 2 0"
+        check(said("ask", "blocks", 3, data=body)[0].decode(), f"{alike}\n", f"ask blocks on {n} states")
         lengths = [len(A), len(body), len(A)]
         came = said("ask", "write", 69634, 3, 7, 9, "/", *lengths, data=A + body + A)[0].decode()
         written = " ".join(map(str, ["written", len(rules), "bytes", *rules]))
@@ -94,33 +100,23 @@ def check_orders():
             check(said("ask", "judge", data=body)[0].decode(), f"refused {wanted}\n", body.hex())
 
 
+def check_blocks():
+    """Of a table with each of these numbers of states: a proof of that length, one shorter and one longer; and the
+    greatest block number and the first that is none, at the first place and at the last."""
+    for n in PASSING:
+        body = blank(n, 2)
+        for length in (n - 1, n, n + 1):
+            wanted = "accepted" if length == n else f"refused 14 {length}"
+            check(answers([[8, 15, 6, length, *[0] * length, *body]])[0], wanted, f"{length} blocks for {n} states")
+        for block, place in itertools.product((n - 1, n, 255), (0, n - 1)):
+            blocks = [n - 1] * place + [block] + [n - 1] * (n - 1 - place)
+            wanted = "accepted" if block < n else f"refused 15 {place}"
+            check(answers([[8, 15, 6, n, *blocks, *body]])[0], wanted, f"block {block} of {n} states at {place}")
+            came = said("ask", "proof", 15, 6, *blocks, data=body)[0].decode()
+            check(came, f"{wanted}\n", f"ask proof, block {block} of {n} states at {place}")
+
+
 # ---- larger tables that say the same
-
-
-def parts(body):
-    """The start, the marks and the rows of a table."""
-    n, k, start = body[:3]
-    return start, list(body[3:3 + n]), [list(body[3 + n + q * k:3 + n + q * k + k]) for q in range(n)]
-
-
-def with_copies(r, body, size, split):
-    """The table with copies of states behind its last, up to this size, and of which state each is one. A copy leads
-    where its state leads or to copies of that. If `split` is set, so does every state; if not, no copy is reached."""
-    start, marks, rows = parts(body)
-    n = len(marks)
-    of = list(range(n)) + [r.randrange(n) for _ in range(size - n)]
-    alike = [[q for q in range(size) if of[q] == p] for p in range(n)]
-    moved = [[r.choice(alike[p]) if split or q >= n else p for p in rows[of[q]]] for q in range(size)]
-    return table(start, [marks[p] for p in of], moved), of
-
-
-def named_anew(r, body, of):
-    """The table with its states in another order."""
-    start, marks, rows = parts(body)
-    places = r.sample(range(len(marks)), len(marks))
-    inverse = sorted(range(len(marks)), key=places.__getitem__)
-    new_rows = [[places[p] for p in rows[q]] for q in inverse]
-    return table(places[start], [marks[q] for q in inverse], new_rows), [of[q] for q in inverse]
 
 
 def calls(r, body):
@@ -132,6 +128,37 @@ def calls(r, body):
         for faults in (*KINDS, 15, r.randrange(1, 15)):
             yield [4, faults, d, 2 * n - 1]
             yield [7, faults, d, r.randrange(d), 2 * n - 1, 0]
+
+
+def some_proofs(r, body, d):
+    """The states that are never told apart, as they are answered, and proofs near that one."""
+    alike = [int(word) for word in answers([[9, d, body[0], 0, *body]])[0].split()[2:]]
+    near = list(near_proofs(r, alike))
+    return near[:6] + r.sample(near[6:], min(10, len(near) - 6))
+
+
+def check_proofs(r, bodies):
+    """A proof of a table is answered as the one in which each copy has the block of its state; and states are alike
+    exactly if they are copies of states alike. How many answers are compared."""
+    total = 0
+    for body, d in itertools.product(bodies, READINGS):
+        split, faults = r.random() < 0.5, r.choice((0, *KINDS, 12, 15))
+        larger, of = with_copies(r, body, r.randint(max(65, body[0]), 128), split)
+        proofs = [proof for proof in some_proofs(r, body, d) if len(proof) == body[0] and max(proof) < body[0]]
+        frames = [[8, faults, d, len(proof), *proof, *body] for proof in proofs]
+        frames += [[8, faults, d, len(of), *[proof[p] for p in of], *larger] for proof in proofs]
+        came = answers(frames)
+        for proof, one, other in zip(proofs, came, came[len(proofs):], strict=False):
+            placed = not split or not one.startswith("refused 18")
+            about = f"proof {proof} of {body.hex()} and of copies in {larger.hex()}, set {faults}, reading {d}"
+            check(other if placed else other.split()[:2], one if placed else one.split()[:2], about)
+        larger, of = named_anew(r, larger, of)
+        alike, copies = ([int(word) for word in answers([[9, d, n, 0, *b]])[0].split()[2:]]
+                         for b, n in ((body, body[0]), (larger, len(of))))
+        of_blocks = [alike[p] for p in of]
+        check(copies, [of_blocks.index(block) for block in of_blocks], f"blocks of {body.hex()} and of {larger.hex()}")
+        total += len(proofs) + 1
+    return total
 
 
 def classes_of(answer, n):
@@ -197,14 +224,16 @@ def main():
     r = random.Random(6)
     tried = check_sizes()
     check_orders()
+    check_blocks()
     bodies = [random_table(r, r.randint(1, 64), r.randint(1, 4)) for _ in range(40)]
     bodies += [far_table(r, n, 3) for n in (4, 16, 33, 62, 63, 64) * 2]
     bodies += [table(*late_repeat(n, 3)) for n in (33, 63, 64)]
     bodies += [settling_table(r, r.randint(2, 64), r.randint(1, 4)) for _ in range(15)]
     total, longest = check_larger(r, bodies)
     check_listing(r, bodies)
+    proofs = check_proofs(random.Random(9), bodies)
     print(f"limits: question 2 at {tried} sizes by every call and program, and {total} answers on {len(bodies)} "
-          f"tables, distances up to {longest}, are the same with up to 128 states")
+          f"tables, distances up to {longest}, and {proofs} on their proofs, are the same with up to 128 states")
 
 
 if __name__ == "__main__":

@@ -14,7 +14,7 @@ import sys
 from concurrent.futures import ThreadPoolExecutor
 
 from inputs import FILES, RINGS, ROOM, ask, kept, listing, longest_bodies, pack, stored, write
-from tables import A, D, collection, damaged, in_a_row, late_repeat, random_table, settling, table
+from tables import A, D, E, collection, damaged, in_a_row, late_repeat, random_table, settling, table
 
 PROGRAMS = sys.argv[1] if len(sys.argv) > 1 else os.path.join("target", "bin")
 LONG = "7" * 100000
@@ -51,8 +51,17 @@ def large_tables():
     for name, messages in (("none", []), ("most", [0] * 262143 + [15]), ("wrong", [0] * 262143 + [16]), ("longer", [0] * 262145)):
         yield ask(far, "trace", 6, stored(name, messages))
         yield ask(collection([(1, far)]), "rule", 1, "trace", 3, stored(name, messages))
+        yield ask(far, "proof", 15, 6, stored(name, messages))
     for word in ("@", "@" + FILES.name, "@tests/none", "@" + LONG):
         yield ask(far, "trace", 3, word)
+        yield ask(far, "proof", 15, 3, word)
+    for body, reading in ((far, 3), (RINGS[-1], 6), (last[-1], 3)):
+        yield ask(body, "blocks", reading)
+        yield ask(body, "proof", 15, 6, *[body[0] - 1] * body[0])
+        yield ask(body, "proof", 8, 3, stored(f"alone {body[0]}", range(body[0])))
+    for blocks in ([127] * 129, [127] * 127 + [128], [127] * 127 + [255], [2**64 + 1] * 128, [0] * 300):
+        yield ask(last[-1], "proof", 15, 3, *blocks)
+    yield ask(collection([(1, far)]), "rule", 1, "proof", 0, 3, *range(128))
     for k, rising in ((1, True), (16, False)):
         body = table(*settling(128, k, 2, rising))
         yield ask(body, "classes", 128)
@@ -76,6 +85,9 @@ def collections():
                   ["trust", 15, 6, 5, ROOM]):
         for rule in (0, 510, 511, 65535, 65536):
             yield ask(most, "rule", rule, *words)
+    for rule in (0, 65535):
+        yield ask(most, "rule", rule, "proof", 15, 6, 0)
+        yield ask(most, "rule", rule, "blocks", 6)
     for data in (b"", b"\0\0", most + b"\0", most[:-1], most[:4000], single, b"\xff" * 65536):
         yield ask(data, "rule", 9, "fault", 15, 6, ROOM)
     yield card(most, 65535, 0, 510, 511)
@@ -93,6 +105,10 @@ def refusals():
     for line in ("fault 16 3 9", "fault 1 4 9", "fault 3 3 0", "classes 5", "step 2 0 0", "step 3 6 0", "step 3 0 3",
                  "trace 3 0 3", "trace 7", "trust 16 3 0 9", "trust 1 4 0 9", "trust 1 3 3 9", "trust 15 3 0 0"):
         yield ask(body, *line.split())
+    for line in ("proof 16 3 0 1", "proof 12 4 0 1", "proof 12 3 0", "proof 12 3", "proof 12 3 2 0", "proof 12 3 0 0",
+                 "proof 1 3 0 1", "blocks 4"):
+        yield ask(A, *line.split())
+    yield ask(E, "proof", 8, 3, 0, 0, 1)
     sound = collection([(1, A), (2, A)])
     for data in (b"\1\2", sound[:17], collection([(2, A), (2, A)]), sound[:10] + b"\xff" + sound[11:], sound[:-1]):
         yield ask(data, "collection")
@@ -143,7 +159,9 @@ def arguments():
                   ["rule", LONG, "judge"], ["rule", 1, LONG], ["rule", 1, "trace", 3, LONG], ["write"], ["write", 9],
                   ["write", 9, LONG, "/"], ["write", LONG, "/"], ["write", 9, "/", LONG], ["write", 9, "x", "/"],
                   ["body"], ["trust"], ["trust", 1, 3, 0], ["trust", 1, 3, 0, 9, 9], ["trust", LONG, LONG, LONG, LONG],
-                  ["trust", 1, 3, LONG, 9], ["trust", 1, 3, 0, LONG], ["trust", 1, 3, "x", 9]):
+                  ["trust", 1, 3, LONG, 9], ["trust", 1, 3, 0, LONG], ["trust", 1, 3, "x", 9], ["proof"], ["proof", 1],
+                  ["proof", LONG, LONG, LONG], ["proof", 12, 3, 0, LONG], ["proof", 12, 3, "x"],
+                  ["proof", 12, 3, "0" * 100000, 1], ["blocks"], ["blocks", LONG], ["blocks", "x"]):
         yield ask(A, *words)
     yield "listing", ["--help"], A
     yield "listing", [LONG], A

@@ -257,6 +257,59 @@ def first_of(first, faults):
     return min((witness for kind, witness in first.items() if kind & faults), default=None)
 
 
+# ---- proofs of immunity, and the states that are never told apart
+# A proof gives each state the number of a block.
+
+
+@functools.lru_cache(256)
+def kept_readings(b, d):
+    return [reading(b, d, q) for q in range(b[0])]
+
+
+def all_readings(b, d):
+    """The reading of each state."""
+    return kept_readings(bytes(b), d)
+
+
+@of_body
+def struck(b):
+    """By each kind of fault, a state reached before the fault step with the sent and the received state behind it."""
+    every = itertools.product(reach(b, b[2]), fault_steps(b[1]))
+    return {(fault[1], q, run(b, q, sent_by(fault)), run(b, q, received_by(fault))) for q, fault in every}
+
+
+def disagreeing(blocks, values):
+    """The states whose value is not that of some lower state of their block, in rising order."""
+    return [q for q in range(len(blocks)) if any(blocks[p] == blocks[q] and values[p] != values[q] for p in range(q))]
+
+
+def faulty_states(b, faults, d, blocks):
+    """Of questions 15 to 18 on a proof of n blocks the number, with the states at fault."""
+    yield 15, [q for q, block in enumerate(blocks) if block >= b[0]]
+    yield 16, disagreeing(blocks, all_readings(b, d))
+    yield 17, disagreeing(blocks, [[blocks[p] for p in successors(b, q)] for q in range(b[0])])
+    yield 18, [q for kind, q, *behind in struck(b) if kind & faults and len({blocks[p] for p in behind}) > 1]
+
+
+def proof_refusal(b, faults, d, blocks):
+    """The refusal (number, place) of a proof, or None."""
+    no = fault_refusal(b, faults, d)
+    no = no or (None if len(blocks) == b[0] else (14, len(blocks)))
+    return no or next(((no, min(at)) for no, at in faulty_states(b, faults, d, blocks) if at), None)
+
+
+def never_told_apart(b, d):
+    """For each state the lowest that no trace tells apart from it. States are alike that read alike; of these, those
+    that each message leads to states alike; and so on until no more are told apart."""
+    alike = all_readings(b, d)
+    while True:
+        looks = [(alike[q], *(alike[p] for p in successors(b, q))) for q in range(b[0])]
+        finer = [looks.index(look) for look in looks]
+        if finer == alike:
+            return finer
+        alike = finer
+
+
 # ---- printed answers
 
 
@@ -304,6 +357,22 @@ def ask_trust(b, faults, d, verdict, room, w=None, marks=settled):
     no = fault_refusal(b, faults, d, verdict)
     answer = refusal(no) + listed([255] * room) if no else finding(b, d, w, room, TRUST, marks)
     return [7, faults, d, verdict, *divmod(room, 256)[::-1], *b], answer
+
+
+def ask_proof(b, faults, d, blocks, refuse=proof_refusal):
+    """The question whether a proof is accepted, with its answer."""
+    no = refuse(b, faults, d, blocks)
+    return [8, faults, d, len(blocks), *blocks, *b], refusal(no) if no else "accepted"
+
+
+def ask_blocks(b, d, room, find=never_told_apart):
+    """The question which states are never told apart, with its answer and the whole area."""
+    no = judge(b)
+    no = no or (None if d in READINGS else (10, 0))
+    no = no or (None if b[0] <= room else (13, 0))
+    area = [] if no else find(b, d)
+    answer = refusal(no) if no else f"written {b[0]}"
+    return [9, d, room, 0, *b], answer + listed([*area, *[255] * (room - len(area))])
 
 
 # ---- the comparison

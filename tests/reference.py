@@ -262,6 +262,52 @@ def trust(body, faults, reading, verdict, area_length):
     return examine(table, faults, values, lambda sent, received: received == verdict != sent, area_length)
 
 
+# ---- proofs of immunity, and states that are never told apart --------------------------------------------
+
+def first_disagreeing(blocks, values):
+    """The lowest state whose value is not that of the lowest state of its block, or None."""
+    lowest = {}
+    for state, (block, value) in enumerate(zip(blocks, values, strict=True)):
+        if lowest.setdefault(block, value) != value:
+            return state
+    return None
+
+
+def proof(body, faults, reading, blocks):
+    """Accepted (nothing is answered), or refused: the blocks are the proof, a number for each state."""
+    table, values = read_values(body, faults, reading)
+    question(len(blocks) == table.n, 14, len(blocks))
+    for state, block in enumerate(blocks):
+        question(block < table.n, 15, state)
+    led = [tuple(blocks[after] for after in row) for row in table.rows]
+    for number, compared in ((16, values), (17, led)):
+        state = first_disagreeing(blocks, compared)
+        question(state is None, number, state)
+    for state in sorted(reached_from(table, table.start)):
+        for _, (sent, received) in fault_steps(table, faults, state):
+            question(blocks[sent] == blocks[received], 18, state)
+
+
+def blocks(body, reading):
+    """For each state the lowest that no trace tells apart from it.
+
+    `kept` has for some traces, the empty one first, what each state reads behind them. A message before one of them is
+    a longer trace, which is kept if it tells apart two states that none before does: at most n are. One that is not
+    kept tells states apart by the same messages as those kept do, and so does every longer one."""
+    table = read_table(body)
+    question(reading in (3, 6), 10, 0)
+    lowest = values = [read_state(table, reading, s) for s in range(table.n)]
+    kept = [values]
+    for read in kept:
+        for m in range(table.k):
+            longer = [read[row[m]] for row in table.rows]
+            both = list(zip(lowest, longer))
+            if len(set(both)) > len(set(lowest)):
+                kept.append(longer)
+                lowest = [both.index(pair) for pair in both]
+    return [lowest.index(name) for name in lowest]
+
+
 # ---- collections -----------------------------------------------------------------------------------------
 
 def number_at(data, place, width):

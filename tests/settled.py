@@ -10,10 +10,10 @@ import subprocess
 import sys
 
 from brute import all_lead, marks_by_series
-from model import (KINDS, READINGS, all_tables, answers, batches, compare, drawn, judge, listed, monitorability, reach,
-                   settled, state_class, with_marks)
-from tables import (A, B, C, D, E, G, H, HARMED_EARLIER, SETTLING, UNREACHED_SETTLES, collection, random_table,
-                    settling_table)
+from model import (KINDS, READINGS, all_tables, answers, batches, compare, drawn, judge, listed, monitorability,
+                   never_told_apart, reach, settled, state_class, with_marks)
+from tables import (A, B, C, D, E, G, H, HARMED_EARLIER, SETTLING, UNREACHED_SETTLES, collection, near_proofs,
+                    random_table, settling_table)
 
 LISTING = "target/bin/listing"
 # Numbers of states around the bits of a word, and around the most.
@@ -37,7 +37,8 @@ def refused_facts():
     for verdict in (1, 2):
         b = [2, 1, 0, 0, verdict, 1, 0]
         for call, room in (([0, 0, 0, 0], 0), ([1, 3, 0, 0], 3), ([2, 3, 0, 0], 0), ([3, 3, 1, 0, 0], 0),
-                           ([4, 15, 6, 3], 3), ([5, 0, 0, 0], 0), ([7, 15, 3, 0, 3, 0], 3)):
+                           ([4, 15, 6, 3], 3), ([5, 0, 0, 0], 0), ([7, 15, 3, 0, 3, 0], 3), ([8, 15, 3, 2, 0, 0], 0),
+                           ([9, 3, 3, 0], 3)):
             yield call + b, "refused 8 6" + listed([255] * room)
         yield [6, 1, 1, 0, 9, 0, len(b), 0] + b, "refused 8 0"
 
@@ -46,11 +47,13 @@ def facts_of_h():
     """State 0 is good, immune to everything, and the start has its verdict at once."""
     yield [1, 2, 0, 0, *H], "monitorability pos reached 2 0 0"
     yield [5, 0, 0, 0, *H], "2 pos - - - -"
+    yield from (([9, d, 2, 0, *H], "written 2 0 0") for d in READINGS)
     for d, true in ((3, 1), (6, 0)):
         yield [2, d, 0, 0, *H], f"state 1 reading {true}"
         yield from (([3, d, length, 0, *[0] * length, *H], f"reading {true} count 0") for length in range(3))
         for faults in range(16):
             yield [4, faults, d, 0, *H], "immune"
+            yield [8, faults, d, 2, 0, 0, *H], "accepted"
             yield from (([7, faults, d, verdict, 0, 0, *H], "yes") for verdict in range(d))
 
 
@@ -72,6 +75,8 @@ def other_facts():
         yield [1, n, 0, 0, *row], f"monitorability {word} reached {n}" + listed([verdict - 1] * n)
         yield [3, 3, 0, 0, *row], f"reading {verdict} count 0"
         yield [5, 0, 0, 0, *row], f"{n} {word} - - - -"
+        yield [8, 15, 6, n, *[n - 1] * n, *row], "accepted"
+        yield [9, 3, n, 0, *row], f"written {n}" + listed([0] * n)
 
 
 def listing(bodies):
@@ -135,6 +140,10 @@ def calls(b):
     yield from ([2, *step] for step in (steps if small else r.sample(steps, 9)))
     for d, length in itertools.product(READINGS, sorted({0, 1, 2, n // 2, n - 1, n + 1})):
         yield [3, d, length, 0, *[r.randrange(k) for _ in range(length)]]
+    for d in READINGS:
+        yield [9, d, n, 0]
+        proofs = list(near_proofs(r, never_told_apart(b, d)))
+        yield from ([8, r.randrange(16), d, len(proof), *proof] for proof in proofs[:6] + r.sample(proofs[6:], 6))
     for d, faults in itertools.product(READINGS, range(1, 16) if small else [r.randrange(1, 16)]):
         yield [4, faults, d, 20]
         yield from ([7, faults, d, verdict, 20, 0] for verdict in (range(d) if small else [r.randrange(d)]))

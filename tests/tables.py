@@ -16,6 +16,7 @@ UGLY_FURTHER_ON = bytes([3, 2, 0, 0, 1, 0, 1, 2, 1, 1, 2, 2])
 UGLY_UNREACHABLE = bytes([2, 1, 0, 1, 0, 0, 1])
 HARMED_EARLIER = bytes([3, 2, 0, 0, 0, 1, 0, 1, 2, 2, 2, 2])            # by settled marks than by drawn ones
 UNREACHED_SETTLES = bytes([2, 1, 1, 0, 1, 1, 1])
+UNREACHED_DIFFER = bytes([4, 2, 0, 0, 0, 0, 1, 0, 0, 1, 1, 3, 2, 3, 3]) # 1 and 2, which read alike by marks alone
 NAMED = [A, B, C, D, E, G, H, THREE_IN_A_ROW, LOWER_TRACE_HARMED, LOWER_TRACE_SWAPPED, UNREACHABLE_HARM,
          UGLY_FURTHER_ON, UGLY_UNREACHABLE]
 
@@ -192,6 +193,77 @@ def settling_table(rng, n, k):
             settles.append(verdict)
         marks.append(verdict if marked else 0)
     return renamed(rng, rng.choice([n - 1, rng.randrange(n)]), marks, rows)
+
+
+# ---- larger tables that say the same ------------------------------------------------------------------------
+
+def parts(body):
+    """The start, the marks and the rows of a table."""
+    n, k, start = body[:3]
+    return start, list(body[3:3 + n]), [list(body[3 + n + q * k:3 + n + q * k + k]) for q in range(n)]
+
+
+def with_copies(rng, body, size, split):
+    """The table with copies of states behind its last, up to this size, and of which state each is one. A copy leads
+    where its state leads or to copies of that. If `split` is set, so does every state; if not, no copy is reached."""
+    start, marks, rows = parts(body)
+    n = len(marks)
+    of = list(range(n)) + [rng.randrange(n) for _ in range(size - n)]
+    alike = [[q for q in range(size) if of[q] == p] for p in range(n)]
+    moved = [[rng.choice(alike[p]) if split or q >= n else p for p in rows[of[q]]] for q in range(size)]
+    return table(start, [marks[p] for p in of], moved), of
+
+
+def named_anew(rng, body, of):
+    """The table with its states in another order."""
+    start, marks, rows = parts(body)
+    places = rng.sample(range(len(marks)), len(marks))
+    inverse = sorted(range(len(marks)), key=places.__getitem__)
+    new_rows = [[places[p] for p in rows[q]] for q in inverse]
+    return table(places[start], [marks[q] for q in inverse], new_rows), [of[q] for q in inverse]
+
+
+# ---- proofs ------------------------------------------------------------------------------------------------
+
+def unequal_lengths(blocks):
+    """The proof without its last block, without any, and with more."""
+    return [blocks[:-1], [], blocks + [0], (blocks * 3)[:255]]
+
+
+def altered(rng, blocks, state):
+    """The proof with another block for one state: one that is there, one that is not, and numbers of no state."""
+    n = len(blocks)
+    free = [block for block in range(n) if block not in blocks]
+    beyond = [block for block in (n, n + 1, 128, 129, 255) if block >= n]
+    for others in ([block for block in blocks if block != blocks[state]], free, beyond):
+        if others:
+            yield blocks[:state] + [rng.choice(others)] + blocks[state + 1:]
+
+
+def coarser(rng, blocks):
+    """The proof with two of its blocks made one, if it has two, and with all of them made one."""
+    if len(set(blocks)) > 1:
+        one, two = rng.sample(sorted(set(blocks)), 2)
+        yield [one if block == two else block for block in blocks]
+    yield [rng.randrange(len(blocks))] * len(blocks)
+
+
+def near_proofs(rng, blocks):
+    """A proof; with its blocks named anew; coarser ones, and the finest; one block altered at every state; two; and
+    other lengths."""
+    n = len(blocks)
+    names = rng.sample(range(n), n)
+    yield blocks
+    yield [names[block] for block in blocks]
+    yield [n - 1 - block for block in blocks]
+    yield from coarser(rng, blocks)
+    yield names
+    for state in range(n):
+        yield from altered(rng, blocks, state)
+    for one, two in [rng.sample(range(n), 2) for _ in range(2)] if n > 1 else []:
+        for other in altered(rng, blocks, one):
+            yield from altered(rng, other, two)
+    yield from unequal_lengths(blocks)
 
 
 # ---- damaged tables --------------------------------------------------------------------------------------
