@@ -1,13 +1,13 @@
 -- What the square does not tell apart is never told apart: the blocks are those of the table.
 use mathlib.Core.Path.{_≡_, sym, ap, _∙_}
-use mathlib.Core.Bool.{Bool, true, false, not}
+use mathlib.Core.Bool.{not}
 use mathlib.Core.List.{List}
-use Prim.Native.Nat.{ℕ, _*_, _≤_, _<_}
+use Prim.Native.Nat.{ℕ, _≤_, _<_}
 use native.Mathlib.Omega.{arith}
 use lib.Dec.{eqb}
 use lib.ListN.{getD}
-use borrow.Author.Tests.{eqb-true, eqb-false, eq-eqb, ne-eqb, not-true}
-use Rattle.theory.specs.Below.{first, values}
+use borrow.Author.Tests.{eqb-true, eqb-false, eq-eqb, not-true}
+use Rattle.theory.specs.Below.{values}
 use Rattle.theory.specs.Automaton.{run}
 use Rattle.theory.specs.Monitor.{Monitor, WellFormed, reading}
 use Rattle.theory.specs.Certificate.{NeverApart, alike, lowestAlike, madeBlocks}
@@ -15,12 +15,13 @@ use Rattle.theory.proofs.Below.{both-ways, is-true, first-same}
 use Rattle.theory.proofs.Reach.{run-in}
 use Rattle.theory.proofs.Values.{values-same}
 use Rattle.theory.proofs.Certificate.{alike-exact}
-use Rattle.pairs.specs.declared.Test.the-variants.{Differ}
-use Rattle.pairs.specs.Square.{never, entry, passing, Squared}
+use Rattle.square.specs.declared.Test.the-variants.{Differ}
+use Rattle.square.specs.Square.{never, entry, passing, Squared}
 use Rattle.blocks.specs.Made.{lowestBy}
 
 -- outs holds what every state reads, and the square has the distances of the pairs by it
-module _ {limit : ℕ} {m : Monitor} (w : WellFormed limit m) (d : ℕ) (outs square : List ℕ) (read : (q : ℕ) → q < m .automaton .states → getD outs q 0 ≡ reading m d q)
+module _ {limit : ℕ} {m : Monitor} (w : WellFormed limit m) (d : ℕ) (outs square : List ℕ)
+    (read : (q : ℕ) → q < m .automaton .states → getD outs q 0 ≡ reading m d q)
     (squared : Squared (m .automaton) (passing Differ outs) square) where
   abbrev n : ℕ
   n = m .automaton .states

@@ -7,7 +7,7 @@ use Rattle.theory.specs.Answer.{Question, Answer, asks}
 use Rattle.theory.specs.Monitor.{Monitor}
 use Rattle.monitor.specs.Format.{monitorOf}
 use Rattle.monitor.specs.Questions.{tableQuestions, question10, question13}
-use Rattle.pairs.specs.Square.{never, entry}
+use Rattle.square.specs.Square.{never, entry}
 
 -- writing a certificate asks 1 to 8, 10, 13; `room` is the length of the area lent
 abbrev pub blocksQuestions : ℕ → ℕ → Monitor → List Question
@@ -19,7 +19,8 @@ blocksFigures m = m .automaton .states ∷ []
 
 -- the answer
 unfoldable pub blocksAnswer : ℕ → List ℕ → ℕ → ℕ → Answer (List ℕ)
-blocksAnswer limit b d room = asks (tableQuestions limit b ++ blocksQuestions d room (monitorOf b)) (blocksFigures (monitorOf b))
+blocksAnswer limit b d room =
+    asks (tableQuestions limit b ++ blocksQuestions d room (monitorOf b)) (blocksFigures (monitorOf b))
 
 -- the lowest state that the square does not tell apart from q
 abbrev pub lowestBy : List ℕ → ℕ → ℕ

@@ -3,9 +3,9 @@ use basics::Refusal;
 use basics::Writing;
 use monitor::Shape;
 use opening::Opened;
-use pairs::FEW;
-use pairs::NEVER;
-use pairs::Test;
+use square::FEW;
+use square::NEVER;
+use square::Test;
 use theory::STATE_LIMIT;
 ghost use mathlib.Core.Path.{_≡_};
 ghost use mathlib.Core.List.{_++_};
@@ -18,8 +18,7 @@ ghost use Rattle.theory.specs.Certificate.{madeBlocks};
 ghost use Rattle.basics.specs.Refusals.{lengthWritten};
 ghost use Rattle.monitor.specs.Format.{monitorOf};
 ghost use Rattle.monitor.specs.Opening.{monitorIn, TableIn};
-ghost use Rattle.pairs.specs.Square.{HasRows};
-ghost use Rattle.pairs.specs.Layers.{Blank};
+ghost use Rattle.square.specs.Square.{HasRows, Blank};
 ghost use Rattle.blocks.specs.Made.{blocksQuestions, blocksFigures, blocksAnswer, lowestBy};
 
 // The lowest state that the square does not tell apart from q.
@@ -32,7 +31,7 @@ fn lowest_alike(square: &[u16], n: usize, q: usize) -> usize
 {
     let mut p = 0;
     while p < q {
-        if pairs::entry_at(square, p, q) == NEVER {
+        if square::entry_at(square, p, q) == NEVER {
             return p;
         }
         p += 1;
@@ -85,11 +84,11 @@ fn write_blocks(marks: &[u8], nexts: &[u8], t: Shape, domain: usize, area: &mut 
         ≡ madeBlocks (monitorIn t (marks .entry) (nexts .entry)) domain ++ drop (t .states) (now (area .entry)) ⌝ }
 {
     if t.states <= FEW {
-        let mut square = pairs::blank_few();
+        let mut square = square::blank_few();
         write_in(&mut square, marks, nexts, t, domain, area);
         return;
     }
-    let mut square = pairs::blank();
+    let mut square = square::blank();
     write_in(&mut square, marks, nexts, t, domain, area);
 }
 

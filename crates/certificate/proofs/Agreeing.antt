@@ -12,7 +12,7 @@ use Rattle.theory.specs.Automaton.{Automaton, reachedFrom}
 use Rattle.theory.specs.Answer.{answered, asks}
 use Rattle.theory.specs.Monitor.{Monitor, reading, stateLimit}
 use Rattle.theory.specs.Faults.{steps}
-use Rattle.theory.specs.Certificate.{blockOf, sameBlock, disagrees, readAlike, stepAlike, parts, parted}
+use Rattle.theory.specs.Certificate.{sameBlock, disagrees, readAlike, parts, parted}
 use Rattle.theory.proofs.Below.{any-same, first-same}
 use Rattle.theory.proofs.Answer.{asks-yes}
 use Rattle.theory.proofs.Certificate.{Equivalence, equal-numbers, steps-equal}

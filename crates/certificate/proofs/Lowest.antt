@@ -4,7 +4,7 @@ use mathlib.Core.Bool.{Bool, true, false, not, cond, _&&_}
 use mathlib.Core.List.{List}
 use mathlib.Core.Logic.{⊎-elim}
 use Prim.Native.Nat.{ℕ, suc, _-_, _≤_, _<_, zero-le}
-use native.Mathlib.Nat.{le-refl, le-antisymm, sub-zero}
+use native.Mathlib.Nat.{le-antisymm, sub-zero}
 use native.Mathlib.Omega.{arith}
 use lib.Dec.{eqb}
 use lib.ListN.{length, getD, set, length-set}
@@ -24,9 +24,6 @@ pub record Entered (c : List ℕ) (i : ℕ) (low : List ℕ) : Type 0 where
   pub size : length low ≡ stateLimit
   pub upto : i ≤ length c
   pub each : (q : ℕ) → i ≤ q → q < length c → getD low (blockOf c q) 0 ≡ first (λ p. sameBlock c p q) i (length c - i)
-
-pub enter-begins : (c low : List ℕ) → length low ≡ stateLimit → Entered c (length c) low
-enter-begins c low e = record { size = e; upto = le-refl (length c); each = λ q l h. absurd (omega arith) }
 
 pub enter-goes-on : {c low : List ℕ} (i : ℕ) → Numbered (length c) c → i < length c → Entered c (suc i) low → Entered c i (set low (blockOf c i) i)
 unfolding first
@@ -63,7 +60,9 @@ module _ (c : List ℕ) where
   module _ (q : ℕ) (l : q < length c) where
     pub lowest-most : lowestIn c q ≤ q
     lowest-most =
-        ⊎-elim (λ (s : q < lowestIn c q). absurd (clash (eq-eqb (blockOf c q) (blockOf c q) refl) (first-below (λ p. sameBlock c p q) 0 (length c) q zero-le s)))
+        ⊎-elim
+        (λ (s : q < lowestIn c q).
+        absurd (clash (eq-eqb (blockOf c q) (blockOf c q) refl) (first-below (λ p. sameBlock c p q) 0 (length c) q zero-le s)))
         (λ s. s) (lt-or-le q (lowestIn c q))
 
     lowest-block : blockOf c (lowestIn c q) ≡ blockOf c q

@@ -1,41 +1,34 @@
 -- Certificates, proved of every accepted table, every fault set and both readings.
 use mathlib.Core.Path.{_≡_, refl, sym, _∙_, subst}
 use mathlib.Core.Bool.{true}
-use mathlib.Core.List.{List, [], _∷_, _++_}
+use mathlib.Core.List.{List, [], _∷_}
 use mathlib.Core.Logic.{_⊎_, inl, inr, ⊎-elim}
 use mathlib.Core.Option.{none}
-use Prim.Native.Nat.{ℕ, _≤_, _<_, zero-le}
+use Prim.Native.Nat.{ℕ, _≤_, _<_}
 use native.Mathlib.Omega.{arith}
-use lib.Dec.{eqb, leb}
-use lib.ListN.{length, getD}
+use lib.Dec.{eqb}
+use lib.ListN.{length}
 use borrow.Author.Tests.{eqb-true, eq-eqb, leb-true, le-leb}
 use Rattle.theory.specs.Lists.{In}
 use Rattle.theory.specs.Answer.{Question, answered, asks}
 use Rattle.theory.specs.Below.{first}
 use Rattle.theory.specs.Monitor.{Monitor, WellFormed, reading}
 use Rattle.theory.specs.Faults.{allFaults}
-use Rattle.theory.specs.Certificate.{blockOf, Certificate, disagrees, readAlike, stepAlike, parted, NeverApart, madeBlocks}
-use Rattle.theory.proofs.Below.{not-clash, or-cases, first-is}
-use Rattle.theory.proofs.Answer.{all-answered, answered-all}
-use Rattle.theory.proofs.Distance.{Immune}
+use Rattle.theory.specs.Certificate.{Certificate, disagrees, readAlike, stepAlike, parted, NeverApart, madeBlocks}
+use Rattle.theory.proofs.Below.{or-cases}
+use Rattle.theory.proofs.Answer.{answered-all}
 use Rattle.theory.proofs.Certificate.{readings-equal, steps-equal, step-at, step-all, none-disagrees, agree-none, none-parted, agree-unparted, valid-immune}
 use Rattle.theory.proofs.Certificate.{lowest-never, lowest-least, made-block, made-valid}
 use Rattle.monitor.specs.Format.{statesOf, monitorOf}
-use Rattle.monitor.specs.Questions.{notBelow, firstNotBelow, judgeAnswer, noValues, question9, question10}
+use Rattle.monitor.specs.Questions.{firstNotBelow, judgeAnswer, noValues, question9, question10}
 use Rattle.monitor.proofs.Accepted.{accepted-table, accepted-asks}
-use Rattle.monitor.proofs.Body.{all-below}
+use Rattle.monitor.proofs.Body.{all-below, below-all}
 use Rattle.immunity.specs.Findings.{faultAnswer}
-use Rattle.certificate.specs.Questions.{question14, question15, question16, question17, question18, blockQuestions, certificateQuestions, certificateAnswer}
+use Rattle.certificate.specs.Questions.{question14, question15, question16, question17, question18, certificateQuestions, certificateAnswer}
 use Rattle.blocks.specs.Made.{blocksQuestions, blocksFigures, blocksAnswer}
-use Rattle.demands.specs.DemandTwo.{Askable, Unharmed}
+use Rattle.demands.specs.DemandTwo.{Askable}
 use Rattle.demands.specs.Certificates.{Certificates}
 use Rattle.demands.proofs.DemandTwo.{known, demand-two}
-
--- numbers below a bound are all passed
-below-all : (bound : ℕ) (l : List ℕ) → ((i : ℕ) → i < length l → getD l i 0 < bound) → firstNotBelow bound l ≡ length l
-below-all bound l h =
-    first-is (notBelow bound l) (length l) 0 (length l) zero-le (omega arith)
-    (λ i _ b. not-clash (λ t. omega (arith, leb-true bound (getD l i 0) t, h i b))) (λ b. absurd (omega arith))
 
 module _ (limit : ℕ) (b : List ℕ) (e : judgeAnswer limit b ≡ answered []) (set d : ℕ) where
   abbrev m : Monitor
@@ -81,7 +74,8 @@ module _ (limit : ℕ) (b : List ℕ) (e : judgeAnswer limit b ≡ answered []) 
         numbers = eq-eqb (firstNotBelow n c) (length c) (below-all n c (λ q l. v .below q (omega (arith, v .size, l))))
 
         equal : eqb (first (disagrees (readAlike m d) c) 0 n) n ≡ true
-        equal = eq-eqb _ n (agree-none (readAlike m d) (readings-equal m d) c n (λ p q lp lq s. eq-eqb (reading m d p) (reading m d q) (v .readings p q lp lq s)))
+        equal = eq-eqb _ n (agree-none (readAlike m d) (readings-equal m d) c n
+            (λ p q lp lq s. eq-eqb (reading m d p) (reading m d q) (v .readings p q lp lq s)))
 
         joined : eqb (first (disagrees (stepAlike (m .automaton) c) c) 0 n) n ≡ true
         joined = eq-eqb _ n (agree-none (stepAlike (m .automaton) c) (steps-equal (m .automaton) c) c n

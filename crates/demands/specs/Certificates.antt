@@ -25,10 +25,12 @@ pub record Certificates (limit : ℕ) (b : List ℕ) (set d : ℕ) : Type 0 wher
   -- "for every immune table at least one proof is accepted": the one that is made is accepted for exactly the sets to
   -- which the table is immune
   pub made : Askable set d
-      → (certificateAnswer limit b set d (madeBlocks (monitorOf b) d) ≡ answered noValues) ↔ Unharmed (monitorOf b) d set
+      → (certificateAnswer limit b set d (madeBlocks (monitorOf b) d) ≡ answered noValues)
+      ↔ Unharmed (monitorOf b) d set
   -- in it the block of a state is the lowest state that is never told apart from it
   pub unapart : (q : ℕ) → q < statesOf b → NeverApart (monitorOf b) d (blockOf (madeBlocks (monitorOf b) d) q) q
-  pub lowest : (p q : ℕ) → q < statesOf b → p < blockOf (madeBlocks (monitorOf b) d) q → ¬ (NeverApart (monitorOf b) d p q)
+  pub lowest : (p q : ℕ) → q < statesOf b → p < blockOf (madeBlocks (monitorOf b) d) q
+      → ¬ (NeverApart (monitorOf b) d p q)
   -- it is written where the area has a byte for each state
   pub written : (room : ℕ) → (d ≡ 3) ⊎ (d ≡ 6) → statesOf b ≤ room
       → blocksAnswer limit b d room ≡ answered (statesOf b ∷ [])

@@ -12,7 +12,7 @@ use Rattle.monitor.specs.Questions.{noValues, judgeAnswer}
 use Rattle.writer.specs.Writing.{givenBody, fileOf, writeAnswer}
 use Rattle.classes.specs.Classify.{classList, classifyAnswer}
 use Rattle.readings.specs.Readings.{stepAnswer, traceAnswer}
-use Rattle.pairs.specs.declared.Test.{Test}
+use Rattle.square.specs.declared.Test.{Test}
 use Rattle.witness.specs.Figures.{witnessTrace, firstBy, witnessAnswer}
 use Rattle.immunity.specs.Findings.{faultAnswer, faultTrace, cardAnswer}
 use Rattle.trust.specs.Trust.{trustAnswer, trustTrace}

@@ -14,7 +14,7 @@ use Rattle.theory.specs.Monitor.{stateLimit}
 use Rattle.theory.specs.Faults.{FaultStep}
 use Rattle.theory.proofs.Below.{lt-or-le}
 use Rattle.theory.proofs.Lists.{in-left, in-right, in-either}
-use Rattle.pairs.specs.Square.{never, entry}
+use Rattle.square.specs.Square.{never, entry}
 use Rattle.faults.specs.Steps.{plus, costOf, Cheapest, Costs}
 
 -- ---- the cost of a step

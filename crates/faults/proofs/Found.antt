@@ -11,7 +11,7 @@ use Rattle.theory.specs.Faults.{FaultStep, steps}
 use Rattle.theory.proofs.Below.{clash}
 use Rattle.theory.proofs.Lists.{none-passes}
 use Rattle.theory.proofs.Faults.{steps-held}
-use Rattle.pairs.specs.Square.{never}
+use Rattle.square.specs.Square.{never}
 use Rattle.faults.specs.declared.Cursor.{Cursor}
 use Rattle.faults.specs.Steps.{costOf, costing, Cheapest}
 use Rattle.faults.specs.Rest.{Placed, stepAt, rest}

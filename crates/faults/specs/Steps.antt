@@ -9,7 +9,7 @@ use Rattle.theory.specs.Lists.{In}
 use Rattle.theory.specs.Automaton.{Automaton, run}
 use Rattle.theory.specs.Monitor.{stateLimit}
 use Rattle.theory.specs.Faults.{FaultStep}
-use Rattle.pairs.specs.Square.{never, entry}
+use Rattle.square.specs.Square.{never, entry}
 use Rattle.faults.specs.declared.Symbols.{Symbols}
 use Rattle.faults.specs.declared.Fault.{Fault}
 use Rattle.faults.specs.Kinds.{bitOf}

@@ -1,5 +1,5 @@
 // Fault sets, fault steps, and the cheapest fault step at a state.
-use pairs::NEVER;
+use square::NEVER;
 use theory::STATE_LIMIT;
 ghost use mathlib.Core.Path.{_≡_};
 ghost use mathlib.Core.List.{_∷_};
@@ -14,7 +14,7 @@ ghost use Rattle.theory.specs.Automaton.{run};
 ghost use Rattle.theory.specs.Monitor.{stateLimit, symbolLimit};
 ghost use Rattle.theory.specs.Faults.{kinds, allFaults, stepOf, seconds, holds, stepsOfKind, steps};
 ghost use Rattle.monitor.specs.Format.{Rows, graph};
-ghost use Rattle.pairs.specs.Square.{never, HasRows};
+ghost use Rattle.square.specs.Square.{never, HasRows};
 ghost use Rattle.faults.specs.Kinds.{rankOf, bitOf};
 ghost use Rattle.faults.specs.Steps.{traceOf, stepFor, Inside, Ranged, costOf, costing, Cheapest, Costs};
 ghost use Rattle.faults.specs.Rest.{stepsFrom, stepsIfHeld, stepsOnward, Placed, stepAt, rest};
@@ -324,7 +324,7 @@ fn cost_of(square: &[u16], nexts: &[u8], n: usize, k: usize, p: usize, fault: Fa
 {
     let x = after(nexts, n, k, p, fault.sent);
     let y = after(nexts, n, k, p, fault.received);
-    basics::least_of(fault.sent.count + pairs::entry_at(square, x, y), NEVER)
+    basics::least_of(fault.sent.count + square::entry_at(square, x, y), NEVER)
 }
 
 // What the cheapest fault of a kind at p with the given first symbol costs.

@@ -9,8 +9,8 @@ use Rattle.theory.specs.Answer.{Answer, answered}
 use Rattle.theory.specs.Computed.{horizon}
 use Rattle.monitor.specs.Format.{Table, automatonOf, tableOf}
 use Rattle.monitor.specs.declared.Shape.{Shape}
-use Rattle.pairs.specs.declared.Test.the-variants.{Differ}
-use Rattle.pairs.specs.Square.{Squared, passing}
+use Rattle.square.specs.declared.Test.the-variants.{Differ}
+use Rattle.square.specs.Square.{Squared, passing}
 use Rattle.faults.specs.declared.Kind.{Kind}
 use Rattle.faults.specs.Kinds.{rankOf, bitOf}
 use Rattle.faults.proofs.ByKind.{bit-is}

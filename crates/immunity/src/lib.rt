@@ -4,8 +4,8 @@ use faults::FaultSet;
 use faults::KINDS;
 use monitor::Shape;
 use opening::Opened;
-use pairs::FEW;
-use pairs::Test;
+use square::FEW;
+use square::Test;
 use theory::STATE_LIMIT;
 use witness::Outcome;
 use witness::WITNESS_ROOM;
@@ -21,9 +21,8 @@ ghost use Rattle.theory.specs.Faults.{kinds};
 ghost use Rattle.theory.specs.Computed.{horizon};
 ghost use Rattle.basics.specs.Refusals.{refusal};
 ghost use Rattle.monitor.specs.Opening.{monitorIn, TableIn};
-ghost use Rattle.pairs.specs.declared.Test.the-variants.{Differ};
-ghost use Rattle.pairs.specs.Square.{Squared, passing};
-ghost use Rattle.pairs.specs.Layers.{Blank};
+ghost use Rattle.square.specs.declared.Test.the-variants.{Differ};
+ghost use Rattle.square.specs.Square.{Blank, Squared, passing};
 ghost use Rattle.witness.specs.Figures.{outcome};
 ghost use Rattle.witness.specs.Search.{automatonIn};
 ghost use Rattle.immunity.specs.Findings.{faultAnswer, faultTrace, finding};
@@ -163,11 +162,11 @@ fn all_columns(marks: &[u8], nexts: &[u8], t: Shape) -> [Column; KINDS]
     ensures { λ r. ⌜ found r ≡ cardAsking [] (monitorIn t (marks .entry) (nexts .entry)) .columns ⌝ }
 {
     if t.states <= FEW {
-        let mut square = pairs::blank_few();
+        let mut square = square::blank_few();
         let mut area = scratch_few();
         return columns_in(&mut square, marks, nexts, t, &mut area);
     }
-    let mut square = pairs::blank();
+    let mut square = square::blank();
     let mut area = scratch();
     columns_in(&mut square, marks, nexts, t, &mut area)
 }

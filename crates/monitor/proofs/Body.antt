@@ -2,15 +2,15 @@
 use mathlib.Core.Path.{_≡_, ap, _∙_}
 use mathlib.Core.Bool.{Bool, true, false}
 use mathlib.Core.List.{List}
-use Prim.Native.Nat.{ℕ, _+_, _*_, _-_, _≤_, _<_, min}
+use Prim.Native.Nat.{ℕ, _+_, _*_, _-_, _≤_, _<_, min, zero-le}
 use native.Mathlib.Nat.{le-refl}
 use native.Mathlib.Omega.{arith}
 use lib.ListN.{length, getD, take, drop, length-take, length-drop}
 use lib.Seq.{take-all}
 use lib.Dec.{eqb}
-use borrow.Author.Tests.{eq-eqb, ne-eqb, leb-false}
+use borrow.Author.Tests.{eq-eqb, ne-eqb, leb-true, leb-false}
 use Rattle.theory.specs.Below.{first}
-use Rattle.theory.proofs.Below.{first-whole, first-none}
+use Rattle.theory.proofs.Below.{not-clash, first-is, first-whole, first-none}
 use Rattle.basics.proofs.Parts.{drop-least}
 use Rattle.monitor.specs.Format.{statesOf, symbolsOf, drawnMarks, nexts, Rows}
 use Rattle.monitor.specs.Questions.{notBelow, firstNotBelow}
@@ -36,6 +36,11 @@ module _ {limit : ℕ} {b : List ℕ} (h : Head limit b) where
 
 pub all-below : (bound : ℕ) (l : List ℕ) → firstNotBelow bound l ≡ length l → (i : ℕ) → i < length l → getD l i 0 < bound
 all-below bound l e i h = leb-false bound (getD l i 0) (first-none (notBelow bound l) 0 (length l) i (omega arith) (omega arith) (omega arith))
+
+pub below-all : (bound : ℕ) (l : List ℕ) → ((i : ℕ) → i < length l → getD l i 0 < bound) → firstNotBelow bound l ≡ length l
+below-all bound l h =
+    first-is (notBelow bound l) (length l) 0 (length l) zero-le (omega arith)
+    (λ i _ b. not-clash (λ t. omega (arith, leb-true bound (getD l i 0) t, h i b))) (λ b. absurd (omega arith))
 
 -- what question 7 leaves of the next states
 pub rows-of : {limit : ℕ} {b : List ℕ} → Head limit b → firstNotBelow (statesOf b) (nexts b) ≡ length (nexts b)

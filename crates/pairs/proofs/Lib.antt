@@ -1,8 +1,2 @@
-pub mod Pass
-pub mod Visit
-pub mod Gather
-pub mod Layers
-pub mod Rounds
-pub mod First
-pub mod Path
-pub mod Walk
+pub mod Sets
+pub mod Start

@@ -1,3 +1,1 @@
-pub mod Square
-pub mod Pass
-pub mod Layers
+pub mod Unused

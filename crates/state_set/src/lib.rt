@@ -143,6 +143,13 @@ impl StateSet {
     }
 }
 
+// Whether no state is in the set.
+pub fn is_empty(set: StateSet) -> bool
+    ensures { λ r. ⌜ r ≡ eqb (first (member set) 0 stateLimit) stateLimit ⌝ }
+{
+    set.lowest() == STATE_LIMIT
+}
+
 // ---- one word of a set: the states of part w, of which there are 64
 
 // Word w of set i of an array of words.

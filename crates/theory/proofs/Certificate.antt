@@ -218,7 +218,8 @@ module _ {limit : ℕ} {m : Monitor} (w : WellFormed limit m) where
 
     pub lowest-same : (p q : ℕ) → p < n → q < n → lowestAlike m d p ≡ lowestAlike m d q → NeverApart m d p q
     lowest-same p q lp lq e =
-        never-then p (lowestAlike m d q) q (never-turned (lowestAlike m d q) p (subst (λ (x : ℕ). NeverApart m d x p) e (lowest-never p lp))) (lowest-never q lq)
+        let near = subst (λ (x : ℕ). NeverApart m d x p) e (lowest-never p lp) in
+        never-then p (lowestAlike m d q) q (never-turned (lowestAlike m d q) p near) (lowest-never q lq)
 
     -- it is valid for every set to which the table is immune
     module _ (set : ℕ) where

@@ -5,5 +5,5 @@ pub const STATE_LIMIT: usize = 128;
 
 pub const SYMBOL_LIMIT: usize = 16;
 
-// The places of the square: `squareSize` in pairs/specs/Square.antt.
+// The places of the square: `squareSize` in square/specs/Square.antt.
 pub const SQUARE_SIZE: usize = STATE_LIMIT * STATE_LIMIT;

@@ -10,7 +10,7 @@ use native.Mathlib.Omega.{arith}
 use lib.ListN.{length, getD, set}
 use lib.Seq.{getD-set-same, getD-set-other}
 use Rattle.theory.proofs.Below.{lt-or-le}
-use Rattle.pairs.specs.Square.{never}
+use Rattle.square.specs.Square.{never}
 use Rattle.totals.specs.Totals.{least, sum}
 
 -- ---- least

@@ -12,7 +12,7 @@ use borrow.Author.Tests.{eqb-true, eqb-false, ltb-true, lt-ltb, le-ltb}
 use Rattle.theory.specs.Automaton.{Automaton, Closed, Trace, run}
 use Rattle.theory.specs.Monitor.{stateLimit}
 use Rattle.theory.proofs.Below.{lt-or-le}
-use Rattle.pairs.specs.Square.{never}
+use Rattle.square.specs.Square.{never}
 use Rattle.totals.specs.Totals.{leastAfter, lowers, lowered, Bounded, Attained, Lowering, Relaxed}
 use Rattle.totals.proofs.Least.{least-found, sum-falls}
 

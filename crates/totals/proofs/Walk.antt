@@ -12,7 +12,7 @@ use lib.Seq.{sets}
 use borrow.Author.Tests.{eq-eqb, ne-eqb, eqb-true}
 use Rattle.theory.specs.Automaton.{Automaton, Closed, run}
 use Rattle.theory.proofs.Below.{first-here}
-use Rattle.pairs.specs.Square.{never}
+use Rattle.square.specs.Square.{never}
 use Rattle.totals.specs.Totals.{onward, approach, wayToFault, Leading}
 
 -- symbol a leads from p to a state with the total l

@@ -9,7 +9,7 @@ use lib.ListN.{length, getD, set}
 use Rattle.theory.specs.Below.{first}
 use Rattle.theory.specs.Automaton.{Automaton, Trace, run}
 use Rattle.theory.specs.Monitor.{stateLimit}
-use Rattle.pairs.specs.Square.{never}
+use Rattle.square.specs.Square.{never}
 
 -- the least of f 0, .. f (n - 1), or never
 unfoldable pub least : ℕ → (ℕ → ℕ) → ℕ

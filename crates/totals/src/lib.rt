@@ -1,5 +1,5 @@
 // From what a fault costs at each state to the fewest symbols sent from each state, the fault still to come.
-use pairs::NEVER;
+use square::NEVER;
 use theory::STATE_LIMIT;
 ghost use mathlib.Core.Path.{_≡_};
 ghost use mathlib.Core.Bool.{cond};
@@ -9,7 +9,7 @@ ghost use lib.Seq.{sets};
 ghost use Rattle.theory.specs.Automaton.{run};
 ghost use Rattle.theory.specs.Monitor.{stateLimit};
 ghost use Rattle.monitor.specs.Format.{Rows, graph};
-ghost use Rattle.pairs.specs.Square.{never};
+ghost use Rattle.square.specs.Square.{never};
 ghost use Rattle.totals.specs.Totals.{leastAfter, lowers, lowered, Bounded, Lowering, Relaxed};
 ghost use Rattle.totals.specs.Totals.{onward, wayToFault, Leading};
 

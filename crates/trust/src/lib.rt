@@ -1,6 +1,6 @@
 // Which verdicts can be believed when they are received: yes, or the first witness against one.
 use basics::Refusal;
-use pairs::Test;
+use square::Test;
 use witness::Outcome;
 use witness::Witness;
 ghost use mathlib.Core.Path.{_≡_};

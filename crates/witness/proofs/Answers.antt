@@ -18,7 +18,7 @@ use Rattle.theory.specs.Computed.{firstHarmful}
 use Rattle.theory.proofs.Below.{lt-or-le}
 use Rattle.theory.proofs.Faults.{steps-good, steps-rise}
 use Rattle.theory.proofs.Witness.{none-harms, first-harms, first-least}
-use Rattle.pairs.specs.Square.{never}
+use Rattle.square.specs.Square.{never}
 use Rattle.witness.specs.Figures.{WitnessFigures, FaultFigures, seriesFigures, witnessFigures, witnessTrace, roomQuestions}
 use Rattle.witness.proofs.Search.{Searched, total-least, total-found, search-none}
 

@@ -15,7 +15,7 @@ use Rattle.theory.proofs.Faults.{steps-good, steps-rise}
 use Rattle.theory.proofs.Witness.{first-harms, sent-trace, sent-length}
 use Rattle.monitor.specs.declared.Shape.{Shape}
 use Rattle.monitor.specs.Opening.{monitorFrom}
-use Rattle.pairs.specs.Square.{apartAtOnce}
+use Rattle.square.specs.Square.{apartAtOnce}
 use Rattle.faults.specs.Kinds.{bitOf}
 use Rattle.faults.specs.Steps.{traceOf}
 use Rattle.faults.proofs.AtMostTwo.{count-is}

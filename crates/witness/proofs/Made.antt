@@ -18,8 +18,8 @@ use Rattle.theory.proofs.Lists.{find-in, some-same}
 use Rattle.theory.proofs.Witness.{run-parts, sent-length}
 use Rattle.monitor.specs.declared.Shape.{Shape}
 use Rattle.monitor.proofs.Rows.{next-of-rows}
-use Rattle.pairs.specs.Square.{never, entry, apartAtOnce, path}
-use Rattle.pairs.proofs.Path.{path-length}
+use Rattle.square.specs.Square.{never, entry, apartAtOnce, path}
+use Rattle.square.proofs.Path.{path-length}
 use Rattle.faults.specs.declared.Fault.{Fault}
 use Rattle.faults.specs.Steps.{stepFor, Ranged, costOf, costing, Costs}
 use Rattle.faults.proofs.AtMostTwo.{count-is}

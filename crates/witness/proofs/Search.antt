@@ -23,8 +23,8 @@ use Rattle.theory.proofs.Reach.{run-in, run-append}
 use Rattle.theory.proofs.Faults.{Good, steps-good}
 use Rattle.theory.proofs.Series.{begin, series-in, struck-is}
 use Rattle.theory.proofs.Witness.{Harm, harm-tells, tells-harm, sent-length, near, found-first, found-none}
-use Rattle.pairs.specs.Square.{never, entry, Squared, path}
-use Rattle.pairs.proofs.Path.{noted-least, apartBy, path-first}
+use Rattle.square.specs.Square.{never, entry, Squared, path}
+use Rattle.square.proofs.Path.{noted-least, apartBy, path-first}
 use Rattle.faults.specs.Steps.{plus, costOf, Costs}
 use Rattle.totals.specs.Totals.{leastAfter, Attained, Relaxed, onward, approach, Leading}
 use Rattle.totals.proofs.Least.{least-le}

@@ -15,7 +15,7 @@ use Rattle.theory.specs.Computed.{firstHarmful}
 use Rattle.monitor.specs.Format.{automatonOf, Rows}
 use Rattle.monitor.specs.Opening.{monitorFrom}
 use Rattle.monitor.specs.declared.Shape.{Shape}
-use Rattle.pairs.specs.Square.{never, Squared, apartAtOnce}
+use Rattle.square.specs.Square.{never, Squared, apartAtOnce}
 use Rattle.faults.specs.Steps.{stepFor, Ranged, Costs}
 use Rattle.totals.specs.Totals.{Relaxed}
 use Rattle.witness.specs.declared.Harm.{Harm}

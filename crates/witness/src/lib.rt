@@ -6,9 +6,9 @@ use faults::FaultSet;
 use faults::Kind;
 use monitor::Shape;
 use opening::Opened;
-use pairs::FEW;
-use pairs::NEVER;
-use pairs::Test;
+use square::FEW;
+use square::NEVER;
+use square::Test;
 use theory::SQUARE_SIZE;
 use theory::STATE_LIMIT;
 ghost use mathlib.Core.Path.{_≡_};
@@ -20,7 +20,7 @@ ghost use Rattle.theory.specs.Monitor.{stateLimit};
 ghost use Rattle.theory.specs.Series.{Series};
 ghost use Rattle.monitor.specs.Format.{monitorOf};
 ghost use Rattle.monitor.specs.Opening.{monitorIn, TableIn};
-ghost use Rattle.pairs.specs.Layers.{Blank};
+ghost use Rattle.square.specs.Square.{Blank};
 ghost use Rattle.witness.specs.Figures.{seriesFigures, witnessTrace, roomQuestions, witnessValues, outcome};
 ghost use Rattle.witness.specs.Figures.{firstBy, figuresBy, witnessQuestions, witnessAnswer, ofReading};
 ghost use Rattle.witness.specs.Search.{firstOf, answerOf, Posed, Ready, Makes, SentInto, automatonIn};
@@ -86,7 +86,7 @@ fn harm_of(
     let p = faults::after(nexts, n, k, state, fault.sent);
     let q = faults::after(nexts, n, k, state, fault.received);
     let at = count + fault.sent.count;
-    let end = pairs::write_apart(square, nexts, n, k, p, q, area, at);
+    let end = square::write_apart(square, nexts, n, k, p, q, area, at);
     let sent = end.sent;
     let received = end.received;
     Harm {
@@ -216,10 +216,10 @@ fn search_reading(
         ≡ written (outcome r) (witnessTrace (firstBy test m domain (set .bits))) (now (area .entry)) ⌝ }
 {
     if t.states <= FEW {
-        let mut square = pairs::blank_few();
+        let mut square = square::blank_few();
         return search_in(&mut square, marks, nexts, t, set, domain, test, area);
     }
-    let mut square = pairs::blank();
+    let mut square = square::blank();
     search_in(&mut square, marks, nexts, t, set, domain, test, area)
 }
 

@@ -1,12 +1,12 @@
 -- `lowest_alike` meets its contract: every state passed is told apart from `q`.
-use mathlib.Core.Path.{_≡_, sym, ap, _∙_}
+use mathlib.Core.Path.{_≡_, sym, _∙_}
 use Prim.Native.Nat.{_-_}
 use native.Mathlib.Omega.{arith}
 use lib.Dec.{eqb}
 use borrow.Author.Needs.{needs}
 use borrow.Author.Tests.{eq-eqb, ne-eqb}
 use Rattle.theory.proofs.Scan.{Passed, scan-begins, scan-goes-on, scan-finds, scan-ends}
-use Rattle.pairs.specs.Square.{never, entry}
+use Rattle.square.specs.Square.{never, entry}
 use Rattle.blocks.proofs.lowest_alike.Statement.{statement}
 use Rattle.blocks.proofs.lowest_alike.Tie as tie
 

@@ -14,11 +14,13 @@ array-share-prefix-marks : tie.Need-array-share-prefix-marks
 array-share-prefix-marks c = marks-lie (opened-yes stateLimit _ _ (c .before .before .before .before .«open» .ensures) (c .before .t .given .1))
 
 slice-aggregate-write-table : tie.Need-slice-aggregate-write-table
-slice-aggregate-write-table c = marks-counted (opened-yes stateLimit _ _ (c .before .before .before .before .before .«open» .ensures) (c .before .before .t .given .1))
+slice-aggregate-write-table c =
+    marks-counted (opened-yes stateLimit _ _ (c .before .before .before .before .before .«open» .ensures) (c .before .before .t .given .1))
 
 write-table-requires : tie.Need-write-table-requires
 write-table-requires c κs =
-    table-handed (opened-yes stateLimit _ _ (c .before .before .before .before .before .before .before .«open» .ensures) (c .before .before .before .before .t .given .1)) (c .before .next-states .ensures)
+    table-handed (opened-yes stateLimit _ _ (c .before .before .before .before .before .before .before .«open» .ensures)
+    (c .before .before .before .before .t .given .1)) (c .before .next-states .ensures)
 
 returns : tie.Need-returns
 unfolding blocksAnswer
@@ -34,10 +36,11 @@ unfolding blocksAnswer
 returns-2 c =
     let a = c .before .before .before .before .before .before .before .before .before .before .before .before .before .before .args in
     let area = a .area .now in
-    let h = opened-yes stateLimit _ _ (c .before .before .before .before .before .before .before .before .before .before .«open» .ensures) (c .before .before .before .before .before .before .before .t .given .1) in
+    let h = opened-yes stateLimit _ _ (c .before .before .before .before .before .before .before .before .before .before .«open» .ensures)
+    (c .before .before .before .before .before .before .before .t .given .1) in
     let e = c .before .before .write-table .ensures in
-    opened-writes h (c .before .before .before .before .next-states .ensures) (blocksQuestions (a .domain) (length area)) blocksFigures (λ m. madeBlocks m (a .domain)) area
-    (e .0) (e .1)
+    opened-writes h (c .before .before .before .before .next-states .ensures) (blocksQuestions (a .domain) (length area)) blocksFigures
+    (λ m. madeBlocks m (a .domain)) area (e .0) (e .1)
 
 pub write-spec : {M : Type 1} → statement M
 write-spec =

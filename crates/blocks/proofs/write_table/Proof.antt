@@ -24,7 +24,8 @@ returns-3 c =
     let s = c .before .before .before .before .before .before .before .before .before .before .before in
     let a = s .args in
     let m = monitorIn (a .t) (a .marks) (a .nexts) in
-    let known = sym (c .before .before .before .before .before .before .before .is-reading .ensures) ∙ not-false _ (c .before .before .before .before .before .before .if1 .left) in (
+    let known = sym (c .before .before .before .before .before .before .before .is-reading .ensures)
+    ∙ not-false _ (c .before .before .before .before .before .before .if1 .left) in (
       rw (known, le-leb (a .t .states) (length (a .area .now)) (c .before .before .before .before .if2 .left)),
       c .before .before .write-blocks .ensures
           ∙ ap (λ (i : ℕ). madeBlocks m (a .domain) ++ drop i (a .area .now)) (sym (length-values (a .t .states) (lowestAlike m (a .domain)))),

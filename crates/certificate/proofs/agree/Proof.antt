@@ -1,5 +1,4 @@
 -- `agree` meets its contract.
-use mathlib.Core.Path.{_∙_, sym}
 use borrow.Author.Needs.{needs}
 use Rattle.certificate.proofs.agree.Statement.{statement}
 use Rattle.certificate.proofs.agree.Tie as tie

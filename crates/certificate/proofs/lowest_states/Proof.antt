@@ -1,10 +1,10 @@
 -- `lowest_states` meets its contract: the states from `q` on are entered.
-use mathlib.Core.Path.{_≡_, sym, subst}
+use mathlib.Core.Path.{_≡_, subst}
 use Prim.Native.Nat.{ℕ, suc, _-_, _<_}
 use native.Mathlib.Omega.{arith}
 use lib.ListN.{length}
 use borrow.Author.Needs.{needs}
-use Rattle.certificate.proofs.Lowest.{Entered, enter-begins, enter-goes-on, enter-ends}
+use Rattle.certificate.proofs.Lowest.{Entered, enter-goes-on, enter-ends}
 use Rattle.certificate.proofs.lowest_states.Statement.{statement}
 use Rattle.certificate.proofs.lowest_states.Tie as tie
 

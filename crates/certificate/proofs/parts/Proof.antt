@@ -43,8 +43,8 @@ returns c =
     let loop = at .before .before .before .before .before in
     let a = loop .before .before .before .before .args in
     ask-finds (loop .loop .inv) (at-step _ (at .before .before .before .before .is-end .ensures) (at .before .before .before .if1 .taken))
-    (parts-is (automatonOf (a .n) (a .k) (a .nexts .now)) (a .blocks .now) (a .p) (at .before .before .step .result) (at .before .before .step .ensures .0) (at .before .after .ensures .0)
-    (at .after2 .ensures .0) false (ne-eqb _ _ (c .if2 .taken)))
+    (parts-is (automatonOf (a .n) (a .k) (a .nexts .now)) (a .blocks .now) (a .p) (at .before .before .step .result) (at .before .before .step .ensures .0)
+    (at .before .after .ensures .0) (at .after2 .ensures .0) false (ne-eqb _ _ (c .if2 .taken)))
 
 next-requires : tie.Need-next-requires Inv-loop μ-loop
 next-requires c κs =
@@ -60,8 +60,8 @@ loop-again c =
     let loop = at .before .before .before .before .before in
     let a = loop .before .before .before .before .args in
     ask-goes-on (loop .loop .inv) (c .next .result) (c .next .ensures .0) (c .next .ensures .1)
-    (parts-is (automatonOf (a .n) (a .k) (a .nexts .now)) (a .blocks .now) (a .p) (at .before .before .step .result) (at .before .before .step .ensures .0) (at .before .after .ensures .0)
-    (at .after2 .ensures .0) true (eq-eqb _ _ (c .before .if2 .left)))
+    (parts-is (automatonOf (a .n) (a .k) (a .nexts .now)) (a .blocks .now) (a .p) (at .before .before .step .result) (at .before .before .step .ensures .0)
+    (at .before .after .ensures .0) (at .after2 .ensures .0) true (eq-eqb _ _ (c .before .if2 .left)))
 
 returns-2 : tie.Need-returns-2 Inv-loop μ-loop
 returns-2 c = ask-ends (c .before .before .loop .inv) (at-end _ (c .before .is-end .ensures) (c .if1 .left))

@@ -2,7 +2,7 @@
 use mathlib.Core.Path.{_∙_}
 use borrow.Author.Needs.{needs}
 use Rattle.monitor.specs.Opening.{monitorIn}
-use Rattle.pairs.specs.declared.Test.the-variants.{Differ}
+use Rattle.square.specs.declared.Test.the-variants.{Differ}
 use Rattle.witness.proofs.Tables.{table-posed}
 use Rattle.immunity.proofs.Marks.{marks-answer, alone}
 use Rattle.immunity.proofs.column_of.Statement.{statement}

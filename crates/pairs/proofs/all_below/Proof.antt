@@ -5,7 +5,7 @@ use native.Mathlib.Omega.{arith}
 use borrow.Author.Needs.{needs}
 use Rattle.state_set.specs.Member.{member}
 use Rattle.theory.specs.Monitor.{stateLimit}
-use Rattle.pairs.proofs.Gather.{Below, below-none, below-more}
+use Rattle.pairs.proofs.Sets.{Below, below-none, below-more}
 use Rattle.pairs.proofs.all_below.Statement.{statement}
 use Rattle.pairs.proofs.all_below.Tie as tie
 

@@ -3,7 +3,7 @@ use Prim.Native.Nat.{_*_}
 use native.Mathlib.Omega.{arith}
 use borrow.Author.Needs.{needs}
 use Rattle.theory.specs.Monitor.{stateLimit, symbolLimit}
-use Rattle.pairs.proofs.Gather.{unused-sets}
+use Rattle.pairs.proofs.Sets.{unused-sets}
 use Rattle.pairs.proofs.enter_distances.Statement.{statement}
 use Rattle.pairs.proofs.enter_distances.Tie as tie
 

@@ -12,14 +12,18 @@ use Rattle.theory.specs.Monitor.{stateLimit}
 use Rattle.state_set.specs.Member.{member}
 use Rattle.monitor.specs.Format.{automatonOf}
 use Rattle.monitor.proofs.Rows.{next-of-rows}
-use Rattle.pairs.specs.Square.{never, squareSize, apartAtOnce}
-use Rattle.pairs.specs.Layers.{Empty, Ground, Layer, Active}
-use Rattle.pairs.proofs.Visit.{empty-none, empty-some}
-use Rattle.pairs.proofs.Gather.{preceding-none}
-use Rattle.pairs.proofs.Layers.{layer-early, layer-last}
-use Rattle.pairs.proofs.First.{begun-none, begun-passing, begun-self, begun-layer}
-use Rattle.pairs.proofs.Path.{squared-same}
-use Rattle.pairs.proofs.Rounds.{Same, same-first, room-of, active-first}
+use Rattle.square.specs.Square.{never, squareSize, apartAtOnce}
+use Rattle.square.proofs.Path.{squared-same}
+use Rattle.rows.specs.Sets.{Empty, Active}
+use Rattle.rows.specs.Midway.{Ground}
+use Rattle.rows.proofs.Visit.{empty-none, empty-some}
+use Rattle.rows.proofs.Gather.{preceding-none}
+use Rattle.rows.proofs.Several.{Same, same-first}
+use Rattle.rounds.specs.Layers.{Layer}
+use Rattle.rounds.proofs.Layers.{layer-early, layer-last}
+use Rattle.rounds.proofs.Rounds.{room-of, active-first}
+use Rattle.pass.proofs.First.{begun-none}
+use Rattle.pairs.proofs.Start.{begun-passing, begun-self, begun-layer}
 use Rattle.pairs.proofs.enter_rounds.Statement.{statement}
 use Rattle.pairs.proofs.enter_rounds.Tie as tie
 

@@ -5,7 +5,7 @@ use mathlib.Core.Option.{some}
 use lib.ListN.{length, getD}
 use borrow.Author.Needs.{needs}
 use Rattle.monitor.specs.Opening.{monitorIn}
-use Rattle.pairs.specs.Square.{apartAtOnce}
+use Rattle.square.specs.Square.{apartAtOnce}
 use Rattle.witness.specs.Figures.{witnessValues}
 use Rattle.witness.specs.Search.{automatonIn}
 use Rattle.witness.proofs.Search.{Searched}

@@ -3,7 +3,7 @@ use native.Mathlib.Omega.{arith}
 use lib.Seq.{length-sets}
 use borrow.Author.Needs.{needs}
 use Rattle.monitor.proofs.Rows.{next-of-rows}
-use Rattle.pairs.proofs.Path.{squared-falls}
+use Rattle.square.proofs.Path.{squared-falls}
 use Rattle.faults.proofs.AtMostTwo.{inside-wider}
 use Rattle.witness.specs.Search.{automatonIn, Posed}
 use Rattle.witness.proofs.Search.{search-leads}
