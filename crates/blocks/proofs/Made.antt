@@ -58,7 +58,7 @@ module _ {limit : ℕ} {m : Monitor} (w : WellFormed limit m) (d : ℕ) (outs sq
         (λ e. alike-exact w d p q lp lq .1 (never-apart (eqb-true (entry square p q) never e)))
         (λ e. eq-eqb (entry square p q) never (apart-never (alike-exact w d p q lp lq .0 e)))
 
-  pub lowest-is : (q : ℕ) → q < n → lowestBy square q ≡ lowestAlike m d q
+  lowest-is : (q : ℕ) → q < n → lowestBy square q ≡ lowestAlike m d q
   lowest-is q l = first-same (λ p. eqb (entry square p q) never) (λ p. alike m d p q) 0 q (λ p _ h. untold p q (omega (arith, h, l)) l)
 
   pub blocks-are : values n (lowestBy square) ≡ madeBlocks m d

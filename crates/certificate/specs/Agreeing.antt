@@ -21,7 +21,7 @@ abbrev pub agreeing : Agreement → Automaton → List ℕ → List ℕ → ℕ 
 agreeing Readings g outs c p q = eqb (getD outs p 0) (getD outs q 0)
 agreeing Steps g outs c p q = stepAlike g c p q
 
--- a block number below n for each of n states
+-- a block number below n for each of n states, which are within the limit
 pub record Numbered (n : ℕ) (c : List ℕ) : Type 0 where
   pub most : n ≤ stateLimit
   pub size : length c ≡ n

@@ -187,7 +187,7 @@ module _ {limit : ℕ} {m : Monitor} (w : WellFormed limit m) where
     never-then p q r h k v t = h v t ∙ k v t
 
     module _ (q : ℕ) (l : q < n) where
-      pub lowest-most : lowestAlike m d q ≤ q
+      lowest-most : lowestAlike m d q ≤ q
       lowest-most = omega (arith, first-le (λ p. alike m d p q) 0 q)
 
       pub lowest-never : NeverApart m d (lowestAlike m d q) q
@@ -213,10 +213,10 @@ module _ {limit : ℕ} {m : Monitor} (w : WellFormed limit m) where
           absurd (lowest-least q lq (lowestAlike m d p) b (never-then (lowestAlike m d p) p q (lowest-never p lp) h)))
           (λ b. b) (lt-or-le (lowestAlike m d p) (lowestAlike m d q))
 
-    pub same-lowest : (p q : ℕ) → p < n → q < n → NeverApart m d p q → lowestAlike m d p ≡ lowestAlike m d q
+    same-lowest : (p q : ℕ) → p < n → q < n → NeverApart m d p q → lowestAlike m d p ≡ lowestAlike m d q
     same-lowest p q lp lq h = le-antisymm (lowest-at-least q p lq lp (never-turned p q h)) (lowest-at-least p q lp lq h)
 
-    pub lowest-same : (p q : ℕ) → p < n → q < n → lowestAlike m d p ≡ lowestAlike m d q → NeverApart m d p q
+    lowest-same : (p q : ℕ) → p < n → q < n → lowestAlike m d p ≡ lowestAlike m d q → NeverApart m d p q
     lowest-same p q lp lq e =
         let near = subst (λ (x : ℕ). NeverApart m d x p) e (lowest-never p lp) in
         never-then p (lowestAlike m d q) q (never-turned (lowestAlike m d q) p near) (lowest-never q lq)

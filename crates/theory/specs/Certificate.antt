@@ -55,7 +55,7 @@ stepAlike g c p q = every (g .symbols) (λ a. sameBlock c (g .next p a) (g .next
 abbrev pub parts : Automaton → List ℕ → ℕ → FaultStep → Bool
 parts g c p s = not (sameBlock c (run g p (s .sent)) (run g p (s .received)))
 
--- p can be reached, and some fault step of the set does so from p
+-- p can be reached, and from p some fault step of the set leads into different blocks
 abbrev pub parted : Monitor → ℕ → List ℕ → ℕ → Bool
 parted m set c p = reached m p && anyIn (parts (m .automaton) c p) (faultsOf m set)
 
