@@ -53,15 +53,36 @@ struct card {
 // Of a question of trust IMMUNE says that the verdict can be believed.
 enum finding { IMMUNE, VULNERABLE, NO_ROOM };
 
-// A baseline's functions: the fault question, the question of trust, which only (a) knows, and the card.
+// A baseline's functions: the fault question, the question of trust, which only (a) knows, the card, the check of a
+// proof, and the making of one. The blocks that are checked are as many as the states and below their number; the check
+// returns the number of the first no of 16 to 18 with its place, or 0.
 struct baseline {
     enum finding (*examine)(const struct table *t, int set, int reading, uint8_t *area, int room, struct witness *w);
     enum finding (*believe)(const struct table *t, int set, int reading, int verdict, uint8_t *area, int room, struct witness *w);
     struct card (*card_of)(const struct table *t);
+    int (*check)(const struct table *t, int set, int reading, const uint8_t *blocks, int *place);
+    void (*make)(const struct table *t, int reading, uint8_t *blocks);
 };
 
 // The same baseline for tables of up to 64 states, where a set of states is one word, and of up to 128.
 extern const struct baseline one_word, two_words;
+
+// The lowest state of each block of n states.
+static inline void lowest_of_each(const uint8_t *blocks, int n, uint8_t *lowest)
+{
+    for (int q = n; q-- > 0;)
+        lowest[blocks[q]] = q;
+}
+
+// Whether every symbol leads from p and q into one block.
+static inline bool step_alike(const struct table *t, const uint8_t *blocks, int p, int q)
+{
+    const uint8_t *one = t->next + p * t->k, *other = t->next + q * t->k;
+    for (int a = 0; a < t->k; a++)
+        if (blocks[one[a]] != blocks[other[a]])
+            return false;
+    return true;
+}
 
 // The fault step of this kind at state p: the states after the sent and after the received messages, and the sent messages. Returns how many are sent.
 static inline int strike(const struct table *t, int p, int kind, int first, int second, int *x, int *y, uint8_t *sent)

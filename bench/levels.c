@@ -2,7 +2,7 @@
 // that has them in different blocks. A round is made from the one before by Hopcroft's rule: of the parts of a block that the last round split, all
 // but the largest split the blocks of this one. Sets of states are words. Only states that the start reaches are looked at, nearest first, and
 // no further than the best total found so far allows. The question of trust is not answered here: where it tells two states apart depends on which
-// of them was sent, and a partition knows no order.
+// of them was sent, and a partition knows no order. A proof is the last partition, of all states.
 #include "states.h"
 #include <string.h>
 
@@ -51,17 +51,10 @@ static inline int pop(states *set)
 
 // ---- layers and classes
 
-static void explore(struct search *m)
+// Adds the layers from this one on: unmarked states that stand in no layer yet.
+static void explore_from(struct search *m, states front)
 {
     const struct table *t = m->t;
-    memset(m->marked, 0, sizeof m->marked);
-    for (int q = 0; q < t->n; q++)
-        m->marked[t->marks[q]] |= only(q);
-    for (int a = 0; a < t->k; a++)
-        memset(m->pred_by[a], 0, t->n * sizeof m->pred_by[a][0]);
-    states front = only(t->start) & m->marked[0];
-    m->reached = 0;
-    m->depth = 0;
     while (front) {
         states found = 0;
         m->layer[m->depth++] = front;
@@ -79,6 +72,26 @@ static void explore(struct search *m)
         }
         front = found & m->marked[0] & ~m->reached;
     }
+}
+
+static void explore(struct search *m)
+{
+    const struct table *t = m->t;
+    memset(m->marked, 0, sizeof m->marked);
+    for (int q = 0; q < t->n; q++)
+        m->marked[t->marks[q]] |= only(q);
+    for (int a = 0; a < t->k; a++)
+        memset(m->pred_by[a], 0, t->n * sizeof m->pred_by[a][0]);
+    m->reached = 0;
+    m->depth = 0;
+    explore_from(m, only(t->start) & m->marked[0]);
+}
+
+// The same with the unmarked states that the start does not reach: a proof is about all states.
+static void explore_all(struct search *m)
+{
+    explore(m);
+    explore_from(m, m->marked[0] & ~m->reached);
 }
 
 // The states with the mark, and the reached ones from which some trace leads to it: layers from the last to the first, until nothing is added.
@@ -368,4 +381,107 @@ static struct card card_of(const struct table *t)
     return card;
 }
 
-const struct baseline BASELINE = {.examine = examine, .card_of = card_of};
+// ---- proofs
+
+// Whether some fault step of the set brings sent and received from p into different blocks, where every symbol takes a
+// block into one block. Where loss does not, no fault does: every symbol then keeps the block of p. Corruption and swap
+// are asked of fewer symbols, as in cheapest().
+static bool parts(const struct table *t, int set, const uint8_t *blocks, int p)
+{
+    const uint8_t *next = t->next, *row = next + p * t->k;
+    int k = t->k;
+    if (set & LOSS) {
+        for (int a = 0; a < k; a++)
+            if (blocks[row[a]] != blocks[p])
+                return true;
+        return false;
+    }
+    if (set & CORRUPTION)
+        for (int b = 1; b < k; b++)
+            if (blocks[row[0]] != blocks[row[b]])
+                return true;
+    if (set & REPEAT)
+        for (int a = 0; a < k; a++)
+            if (blocks[row[a]] != blocks[next[row[a] * k + a]])
+                return true;
+    if (set & SWAP)
+        for (int a = 0; a < k; a++)
+            for (int b = a + 1; b < k; b++)
+                if (blocks[next[row[a] * k + b]] != blocks[next[row[b] * k + a]])
+                    return true;
+    return false;
+}
+
+// The states that the start reaches, marked ones too.
+static void find_reached(const struct table *t, bool *reached)
+{
+    uint8_t left[MOST] = {t->start};
+    memset(reached, 0, t->n);
+    reached[t->start] = true;
+    for (int count = 1; count > 0;) {
+        const uint8_t *row = t->next + left[--count] * t->k;
+        for (int a = 0; a < t->k; a++)
+            if (!reached[row[a]]) {
+                reached[row[a]] = true;
+                left[count++] = row[a];
+            }
+    }
+}
+
+// The fault steps are asked of one state of each block, the lowest that is reached: the others give the same answer.
+static int check(const struct table *t, int set, int reading, const uint8_t *blocks, int *place)
+{
+    struct search m;
+    uint8_t first[MOST];
+    m.t = t;
+    m.outputs = t->marks;
+    if (reading == 6) {
+        m.outputs = m.classes;
+        explore_all(&m);
+        read_classes(&m);
+    }
+    lowest_of_each(blocks, t->n, first);
+    for (int q = 0; q < t->n; q++)
+        if (m.outputs[first[blocks[q]]] != m.outputs[q]) {
+            *place = q;
+            return 16;
+        }
+    for (int q = 0; q < t->n; q++)
+        if (first[blocks[q]] < q && !step_alike(t, blocks, first[blocks[q]], q)) {
+            *place = q;
+            return 17;
+        }
+    if (set == 0)
+        return 0;
+    bool reached[MOST], asked[MOST] = {false};
+    find_reached(t, reached);
+    for (int p = 0; p < t->n; p++) {
+        if (!reached[p] || asked[blocks[p]])
+            continue;
+        asked[blocks[p]] = true;
+        if (parts(t, set, blocks, p)) {
+            *place = p;
+            return 18;
+        }
+    }
+    return 0;
+}
+
+// The blocks of the last round, each with the number of its lowest state.
+static void make(const struct table *t, int reading, uint8_t *blocks)
+{
+    struct search m;
+    uint8_t first[MOST];
+    m.t = t;
+    m.outputs = reading == 3 ? t->marks : m.classes;
+    explore_all(&m);
+    if (reading == 6)
+        read_classes(&m);
+    refine(&m);
+    const uint8_t *of = m.round[m.last];
+    lowest_of_each(of, t->n, first);
+    for (int q = 0; q < t->n; q++)
+        blocks[q] = first[of[q]];
+}
+
+const struct baseline BASELINE = {.examine = examine, .card_of = card_of, .check = check, .make = make};

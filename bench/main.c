@@ -219,18 +219,66 @@ static void print_finding(int set, int reading, int room, const uint8_t *body, i
     bytes(area, room);
 }
 
-// Frames of call 4: a length of two bytes, the call, three numbers, the body. No other call is asked here.
+static void print_judgement(int no, int place)
+{
+    if (no)
+        refusal(no, place);
+    else
+        text("accepted");
+}
+
+static void print_check(int set, int reading, const uint8_t *blocks, int count, const uint8_t *body, int len)
+{
+    struct table t;
+    int place, no = judge_question(body, len, set, reading, &place, &t);
+    if (no == 0 && count != t.n)
+        no = 14, place = count;
+    if (no == 0 && (place = first_not_below(blocks, count, t.n)) < count)
+        no = 15;
+    if (no == 0)
+        no = baseline_for(&t)->check(&t, set, reading, blocks, &place);
+    print_judgement(no, place);
+}
+
+static void print_blocks(int reading, int room, const uint8_t *body, int len)
+{
+    uint8_t area[256];
+    struct table t;
+    int place, no = judge_question(body, len, 0, reading, &place, &t);
+    memset(area, 255, sizeof area);
+    if (no == 0 && room < t.n)
+        no = 13;
+    if (no)
+        refusal(no, place);
+    else {
+        baseline_for(&t)->make(&t, reading, area);
+        number("written ", t.n);
+    }
+    bytes(area, room);
+}
+
+// Frames: a length of two bytes, the call, three numbers, the call's bytes. The calls asked here are 0, 4, 8 and 9.
 static void probe(const uint8_t *input, int len)
 {
     for (int at = 0; at + 2 <= len;) {
-        const uint8_t *frame = input + at + 2;
-        int size = u16(input + at);
+        const uint8_t *frame = input + at + 2, *rest = frame + 4;
+        int size = u16(input + at), place;
+        struct table t;
         if (size > len - at - 2)
             size = len - at - 2;
         at += 2 + size;
-        if (size < 4)
+        size -= 4;
+        if (size < 0)
             continue;
-        print_finding(frame[1], frame[2], frame[3], frame + 4, size - 4);
+        if (frame[0] == 0) {
+            int no = judge(rest, size, &place, &t);
+            print_judgement(no, place);
+        } else if (frame[0] == 4)
+            print_finding(frame[1], frame[2], frame[3], rest, size);
+        else if (frame[0] == 8 && frame[3] <= size)
+            print_check(frame[1], frame[2], rest, frame[3], rest + frame[3], size - frame[3]);
+        else if (frame[0] == 9)
+            print_blocks(frame[1], frame[2], rest, size);
         end_line();
     }
 }

@@ -1,7 +1,7 @@
 // Baseline (a): the library's algorithm. The distances of all pairs of states stand in one square; the pairs at r + 1 are
 // found from those at r through the predecessors of their two states, and sets of states are words. From the square come
 // the cheapest fault step at each state, the totals, and the witness. The question of trust is the same search with
-// another test of what tells two states apart.
+// another test of what tells two states apart. A proof is made from the square, and checked without it.
 #include "states.h"
 #include <string.h>
 
@@ -79,6 +79,15 @@ static void write_classes(const struct table *t, uint8_t *outputs)
     states truth = reaching(t, marked(t, 1)), falsity = reaching(t, marked(t, 2));
     for (int q = 0; q < t->n; q++)
         outputs[q] = class_of(t, truth, falsity, q);
+}
+
+// What every state reads.
+static void write_readings(const struct table *t, int reading, uint8_t *outputs)
+{
+    if (reading == 3)
+        memcpy(outputs, t->marks, t->n);
+    else
+        write_classes(t, outputs);
 }
 
 // ---- the square
@@ -313,10 +322,7 @@ static enum finding first_witness(const struct table *t, int set, int reading, i
 {
     uint8_t outputs[MOST];
     square s;
-    if (reading == 3)
-        memcpy(outputs, t->marks, t->n);
-    else
-        write_classes(t, outputs);
+    write_readings(t, reading, outputs);
     distances(t, outputs, test, s);
     return examine_set(t, outputs, s, set, area, room, w);
 }
@@ -344,4 +350,72 @@ static struct card card_of(const struct table *t)
     return card;
 }
 
-const struct baseline BASELINE = {examine, believe, card_of};
+// ---- proofs
+
+// Whether some fault step of the set brings sent and received from p into different blocks.
+static bool parts(const struct table *t, int set, const uint8_t *blocks, int p)
+{
+    const uint8_t *next = t->next, *row = next + p * t->k;
+    int k = t->k;
+    if (set & LOSS)
+        for (int a = 0; a < k; a++)
+            if (blocks[row[a]] != blocks[p])
+                return true;
+    if (set & CORRUPTION)
+        for (int a = 0; a < k; a++)
+            for (int b = 0; b < k; b++)
+                if (blocks[row[a]] != blocks[row[b]])
+                    return true;
+    if (set & REPEAT)
+        for (int a = 0; a < k; a++)
+            if (blocks[row[a]] != blocks[next[row[a] * k + a]])
+                return true;
+    if (set & SWAP)
+        for (int a = 0; a < k; a++)
+            for (int b = 0; b < k; b++)
+                if (blocks[next[row[a] * k + b]] != blocks[next[row[b] * k + a]])
+                    return true;
+    return false;
+}
+
+// Every state is compared with the lowest one of its block; then every fault step is asked at every state that is reached.
+static int check(const struct table *t, int set, int reading, const uint8_t *blocks, int *place)
+{
+    uint8_t outputs[MOST], first[MOST];
+    write_readings(t, reading, outputs);
+    lowest_of_each(blocks, t->n, first);
+    for (int q = 0; q < t->n; q++)
+        if (outputs[first[blocks[q]]] != outputs[q]) {
+            *place = q;
+            return 16;
+        }
+    for (int q = 0; q < t->n; q++)
+        if (!step_alike(t, blocks, first[blocks[q]], q)) {
+            *place = q;
+            return 17;
+        }
+    states reached = reachable(t);
+    for (int p = 0; p < t->n; p++)
+        if (has(reached, p) && parts(t, set, blocks, p)) {
+            *place = p;
+            return 18;
+        }
+    return 0;
+}
+
+// The block of a state is the lowest state that the square does not tell apart from it.
+static void make(const struct table *t, int reading, uint8_t *blocks)
+{
+    uint8_t outputs[MOST];
+    square s;
+    write_readings(t, reading, outputs);
+    distances(t, outputs, DIFFER, s);
+    for (int q = 0; q < t->n; q++) {
+        int p = 0;
+        while (p < q && s[p][q] != NEVER)
+            p++;
+        blocks[q] = p;
+    }
+}
+
+const struct baseline BASELINE = {examine, believe, card_of, check, make};

@@ -49,6 +49,21 @@ def small_table(r):
     return r.choice((random_table, chain_table))(r, r.randint(3, 8), r.randint(2, 4))
 
 
+def unmarked_table(r, n, k):
+    """Without a mark, so that no fault does harm and one block proves it. Message 0 leads through all states, the others anywhere."""
+    rows = [[(q + 1) % n, *(r.randrange(n) for _ in range(k - 1))] for q in range(n)]
+    return body(k, r.randrange(n), [0] * n, rows)
+
+
+def heard_table(r, k):
+    """A state for each set of messages that were heard, numbered anyhow; true once some, drawn here, have all been heard. Repeat and swap do no harm."""
+    number = r.sample(range(2**k), 2**k)
+    heard = sorted(range(2**k), key=number.__getitem__)
+    wanted = sum(1 << a for a in r.sample(range(k), r.randint(4, k)))
+    marks = [int(h & wanted == wanted) for h in heard]
+    return body(k, number[0], marks, [[number[h | 1 << a] for a in range(k)] for h in heard])
+
+
 def sets():
     """The sets of tables, each with its name. Those of 128 states, which came later, have a generator of their own, so that the others stay what they were."""
     r, large = random.Random(1), random.Random(4)
@@ -66,6 +81,25 @@ def growth():
     r, large = random.Random(2), random.Random(5)
     for (kind, make), n, k in itertools.product((("random", random_table), ("chain", chain_table)), (8, 16, 32, 64, 128), (2, 4, 8, 16)):
         yield kind, n, k, [make(large if n == 128 else r, n, k) for _ in range(10)]
+
+
+def proof_sets():
+    """The sets of tables for which proofs are made and checked, and the fault set of the check: (name, tables, faults). To those of sets() come
+    tables whose proofs are all accepted: for all faults, where what the start reaches is one block, and for repeat and swap, where blocks are many."""
+    r = random.Random(6)
+    for n in (64, 128):
+        yield f"20 unmarked, n = {n}, k = 16", [unmarked_table(r, n, 16) for _ in range(20)], 15
+    for k in (6, 7):
+        yield f"20 heard, n = {2**k}, k = {k}", [heard_table(r, k) for _ in range(20)], 12
+    for name, bodies in sets().items():
+        yield name, bodies, 15
+
+
+def proof_growth():
+    """Ten tables without marks of each size: (n, k, tables)."""
+    r = random.Random(7)
+    for k, n in itertools.product((4, 16), (16, 32, 64, 128)):
+        yield n, k, [unmarked_table(r, n, k) for _ in range(10)]
 
 
 def traces():
@@ -123,6 +157,18 @@ def questions(bodies):
     return [b"".join(batch) for batch in batches(frames)]
 
 
+def makings(bodies):
+    """The making of a proof for each table, by both readings, as inputs of `probe`, with an area of n."""
+    return [b"".join(batch) for batch in batches([frame(9, (reading, b[0], 0), b) for b in bodies for reading in (3, 6)])]
+
+
+def checks(bodies, proofs, faults, readings=(3, 6)):
+    """The check of a proof for this fault set, for each table and reading, as inputs of `probe`. The proofs stand in that order."""
+    asked = zip(itertools.product(bodies, readings), proofs)
+    frames = [frame(8, (faults, reading, len(proof)), proof + b) for (b, reading), proof in asked]
+    return [b"".join(batch) for batch in batches(frames)]
+
+
 # ---- the same with nothing to work out, to measure start and printing
 
 
@@ -145,3 +191,15 @@ def refused_questions(data, answers):
         frames.append(frame(4, (15, 3, room), b""))
         at += 2 + int.from_bytes(data[at : at + 2], "little")
     return b"".join(frames)
+
+
+def refused_makings(_, answers):
+    """As many questions with empty bodies, whose refusals `probe` prints by as many writes: a refusal takes two more than `written`, which an area
+    shorter by a byte makes up for."""
+    return b"".join(frame(9, (3, int(answer.split()[1]) - 1, 0), b"") for answer in answers.splitlines())
+
+
+def refused_checks(_, answers):
+    """As many questions with the same answer: for a refusal one with an empty body, for `accepted` call 0, which judges, and a table of one state."""
+    accepted, refused = frame(0, (0, 0, 0), body(1, 0, [0], [[0]])), frame(8, (15, 3, 0), b"")
+    return b"".join(accepted if answer == b"accepted" else refused for answer in answers.splitlines())
