@@ -1,6 +1,8 @@
 // Checking a certificate: the proof of immunity that comes with a table, a block number for every state.
-use faults::Cursor;
+use faults::Fault;
 use faults::FaultSet;
+use faults::KINDS;
+use faults::Kind;
 use monitor::Judgement;
 use monitor::Shape;
 use opening::Opened;
@@ -14,11 +16,14 @@ ghost use Rattle.theory.specs.Below.{first};
 ghost use Rattle.theory.specs.Lists.{anyIn};
 ghost use Rattle.theory.specs.Answer.{asks};
 ghost use Rattle.theory.specs.Monitor.{stateLimit};
-ghost use Rattle.theory.specs.Faults.{steps};
+ghost use Rattle.theory.specs.Faults.{kinds, stepsOfKind, steps};
 ghost use Rattle.theory.specs.Certificate.{disagrees, stepAlike, parts};
 ghost use Rattle.monitor.specs.Format.{Rows, graph};
 ghost use Rattle.monitor.specs.Opening.{monitorFrom, monitorIn, TableIn};
 ghost use Rattle.monitor.specs.Questions.{noValues, judgement};
+ghost use Rattle.faults.specs.Kinds.{rankOf};
+ghost use Rattle.faults.specs.Steps.{stepFor, Ranged};
+ghost use Rattle.faults.specs.Rest.{stepsFrom, stepsIfHeld};
 ghost use Rattle.certificate.specs.Questions.{question14, question15, question16, question17, question18};
 ghost use Rattle.certificate.specs.Questions.{blockQuestions, certificateQuestions, certificateAnswer};
 ghost use Rattle.certificate.specs.Agreeing.{agreeing, Numbered, lowestIn, Lowest, partedBy};
@@ -128,23 +133,102 @@ fn first_disagreeing(
     q
 }
 
-// Whether some fault step of the set brings sent and received from p into different blocks.
+// Whether a fault at p brings sent and received into different blocks.
+fn parts_by(nexts: &[u8], n: usize, k: usize, blocks: &[u8], p: usize, fault: Fault) -> bool
+    requires { ⌜ Rows stateLimit n k (now nexts)
+        × (length (now blocks) ≡ n)
+        × (p < n)
+        × Ranged k fault ⌝ }
+    ensures { λ r. ⌜ r ≡ parts (graph n k (nexts .entry)) (now (blocks .entry)) p (stepFor fault) ⌝ }
+{
+    let x = faults::after(nexts, n, k, p, fault.sent);
+    let y = faults::after(nexts, n, k, p, fault.received);
+    blocks[x] != blocks[y]
+}
+
+// Whether some fault of a kind with the given first symbol does so.
+fn parts_from(
+    nexts: &[u8],
+    n: usize,
+    k: usize,
+    blocks: &[u8],
+    p: usize,
+    kind: Kind,
+    first: usize,
+) -> bool
+    requires { ⌜ Rows stateLimit n k (now nexts)
+        × (length (now blocks) ≡ n)
+        × (p < n)
+        × (first < k) ⌝ }
+    ensures { λ r. ⌜ r
+        ≡ anyIn (parts (graph n k (nexts .entry)) (now (blocks .entry)) p) (stepsFrom k (rankOf kind) first) ⌝ }
+{
+    let count = faults::seconds_of(kind, k);
+    let mut second = 0;
+    while second < count {
+        let fault = faults::fault_of(kind, first, second);
+        if parts_by(nexts, n, k, blocks, p, fault) {
+            return true;
+        }
+        second += 1;
+    }
+    false
+}
+
+// Whether some fault of a kind does so.
+fn parts_of_kind(nexts: &[u8], n: usize, k: usize, blocks: &[u8], p: usize, kind: Kind) -> bool
+    requires { ⌜ Rows stateLimit n k (now nexts)
+        × (length (now blocks) ≡ n)
+        × (p < n) ⌝ }
+    ensures { λ r. ⌜ r
+        ≡ anyIn (parts (graph n k (nexts .entry)) (now (blocks .entry)) p) (stepsOfKind k (rankOf kind)) ⌝ }
+{
+    let mut first = 0;
+    while first < k {
+        if parts_from(nexts, n, k, blocks, p, kind, first) {
+            return true;
+        }
+        first += 1;
+    }
+    false
+}
+
+// The same where the set has the kind.
+fn parts_if_held(
+    nexts: &[u8],
+    n: usize,
+    k: usize,
+    set: FaultSet,
+    blocks: &[u8],
+    p: usize,
+    rank: usize,
+) -> bool
+    requires { ⌜ Rows stateLimit n k (now nexts)
+        × (length (now blocks) ≡ n)
+        × (p < n)
+        × (rank < kinds) ⌝ }
+    ensures { λ r. ⌜ r
+        ≡ anyIn (parts (graph n k (nexts .entry)) (now (blocks .entry)) p) (stepsIfHeld (set .bits) k rank) ⌝ }
+{
+    if set.has(rank) {
+        return parts_of_kind(nexts, n, k, blocks, p, faults::kind_at(rank));
+    }
+    false
+}
+
+// Whether some fault of the set does so.
 fn parts(nexts: &[u8], n: usize, k: usize, set: FaultSet, blocks: &[u8], p: usize) -> bool
     requires { ⌜ Rows stateLimit n k (now nexts)
-        × (0 < k)
         × (length (now blocks) ≡ n)
         × (p < n) ⌝ }
     ensures { λ r. ⌜ r ≡ anyIn (parts (graph n k (nexts .entry)) (now (blocks .entry)) p) (steps (set .bits) k) ⌝ }
 {
-    let mut at = Cursor::begin(set);
-    while !at.is_end() {
-        let fault = at.step();
-        let x = faults::after(nexts, n, k, p, fault.sent);
-        let y = faults::after(nexts, n, k, p, fault.received);
-        if blocks[x] != blocks[y] {
+    let mut rank = 0;
+    while rank < KINDS {
+        if parts_if_held(nexts, n, k, set, blocks, p, rank) {
             return true;
         }
-        at = at.next(set, k);
+        rank += 1;
     }
     false
 }
@@ -160,7 +244,6 @@ fn is_parted(
     p: usize,
 ) -> bool
     requires { ⌜ Rows stateLimit n k (now nexts)
-        × (0 < k)
         × (length (now blocks) ≡ n)
         × (p < n) ⌝ }
     ensures { λ r. ⌜ r ≡ partedBy reached (graph n k (nexts .entry)) (set .bits) (now (blocks .entry)) p ⌝ }
@@ -181,7 +264,6 @@ fn first_parted(
     blocks: &[u8],
 ) -> usize
     requires { ⌜ Rows stateLimit n k (now nexts)
-        × (0 < k)
         × (length (now blocks) ≡ n) ⌝ }
     ensures { λ r. ⌜ r
         ≡ first (partedBy reached (graph n k (nexts .entry)) (set .bits) (now (blocks .entry))) 0 n ⌝ }
@@ -240,7 +322,6 @@ fn judge_agreement(marks: &[u8], nexts: &[u8], t: Shape, domain: usize, blocks: 
 // Question 18, which the marks have no part in.
 fn judge_faults(nexts: &[u8], t: Shape, set: FaultSet, blocks: &[u8]) -> Judgement
     requires { ⌜ Rows stateLimit (t .states) (t .symbols) (now nexts)
-        × (0 < t .symbols)
         × (t .start < t .states)
         × (length (now blocks) ≡ t .states) ⌝ }
     ensures { λ r. ⌜ ((vs : List ℕ) → judgement r

@@ -1,4 +1,4 @@
--- The fault steps from a cursor on: all of them at the beginning, one less at the next, none behind the last; and the search for one that passes a test.
+-- The fault steps from a cursor on: all of them at the beginning, one less at the next, none behind the last; and the search for the first that passes a test.
 use mathlib.Core.Path.{_≡_, refl, sym, ap, _∙_}
 use mathlib.Core.Bool.{Bool, true, false}
 use mathlib.Core.List.{List, [], _∷_, _++_, append-assoc, append-nil}
@@ -10,7 +10,7 @@ use native.Mathlib.Numerals.{add-one}
 use native.Mathlib.Omega.{arith}
 use lib.ListN.{length}
 use borrow.Author.Tests.{lt-ltb, le-ltb}
-use Rattle.theory.specs.Lists.{anyIn, find, each}
+use Rattle.theory.specs.Lists.{find, each}
 use Rattle.theory.specs.Faults.{FaultStep, kinds, seconds, holds, steps}
 use Rattle.theory.proofs.Below.{lt-or-le}
 use Rattle.faults.specs.declared.Cursor.{Cursor}
@@ -157,28 +157,3 @@ module _ {f : FaultStep → Bool} {set k : ℕ} where
 
       pub seek-less : length (rest set k to) < length (rest set k at)
       seek-less = rw next (le-refl _)
-
--- ---- whether some step passes a test
-
--- no step before the cursor passes
-pub record Asking (f : FaultStep → Bool) (set k : ℕ) (at : Cursor) : Type 0 where
-  pub placed : Placed k at
-  pub same : anyIn f (rest set k at) ≡ anyIn f (steps set k)
-
-module _ {f : FaultStep → Bool} {set k : ℕ} where
-  pub ask-begins : (at : Cursor) → Placed k at → rest set k at ≡ steps set k → Asking f set k at
-  ask-begins at p e = record { placed = p; same = ap (anyIn f) e }
-
-  module _ {at : Cursor} (s : Asking f set k at) where
-    pub ask-ends : kinds ≤ at .rank → false ≡ anyIn f (steps set k)
-    unfolding anyIn
-    ask-ends l = sym (ap (anyIn f) (rest-end set k at l)) ∙ s .same
-
-    module _ (to : Cursor) (next : rest set k at ≡ stepAt at ∷ rest set k to) where
-      pub ask-goes-on : Placed k to → f (stepAt at) ≡ false → Asking f set k to
-      unfolding anyIn
-      ask-goes-on p e = record { placed = p; same = sym (ap (anyIn f) next ∙ rw e) ∙ s .same }
-
-    pub ask-finds : at .rank < kinds → f (stepAt at) ≡ true → true ≡ anyIn f (steps set k)
-    unfolding anyIn
-    ask-finds l e = sym (ap (anyIn f) (one-less set k at l (s .placed)) ∙ rw e) ∙ s .same

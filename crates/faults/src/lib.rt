@@ -5,7 +5,6 @@ ghost use mathlib.Core.Path.{_≡_};
 ghost use mathlib.Core.List.{_∷_};
 ghost use mathlib.Core.Option.{some};
 ghost use Prim.Native.Nat.{ℕ, _+_, _≤_, _<_};
-ghost use lib.Dec.{leb};
 ghost use lib.ListN.{length};
 ghost use lib.Seq.{sets};
 ghost use lib.Bits.{bitOr};
@@ -118,7 +117,7 @@ impl FaultSet {
     }
 
     // Whether the set has the kind of this rank.
-    fn has(self, rank: usize) -> bool
+    pub fn has(self, rank: usize) -> bool
         requires { ⌜ rank < kinds ⌝ }
         ensures { λ r. ⌜ r ≡ holds (self .bits) rank ⌝ }
     {
@@ -155,7 +154,7 @@ pub struct Fault {
 }
 
 // How many replacements or neighbours a kind goes through.
-fn seconds_of(kind: Kind, k: usize) -> usize
+pub fn seconds_of(kind: Kind, k: usize) -> usize
     ensures { λ r. ⌜ r ≡ seconds (rankOf kind) k ⌝ }
 {
     match kind {
@@ -235,13 +234,6 @@ impl Cursor {
         ensures placed { λ r. ⌜ ((k : ℕ) → 0 < k → Placed k r) ⌝ }
     {
         Self::from_rank(set, 0)
-    }
-
-    // Whether every fault step is behind.
-    pub fn is_end(self) -> bool
-        ensures { λ r. ⌜ r ≡ leb kinds (self .rank) ⌝ }
-    {
-        self.rank >= KINDS
     }
 
     // The fault step here.

@@ -1,6 +1,6 @@
 -- The laws of `In`, `anyIn`, `find`, `each` and `Rising`.
 use mathlib.Core.Path.{_≡_, refl, sym, ap, _∙_, subst}
-use mathlib.Core.Bool.{Bool, true, false, cond, true≢false}
+use mathlib.Core.Bool.{Bool, true, false, cond, _||_, true≢false}
 use mathlib.Core.List.{List, [], _∷_, _++_, map, flatMap, append-assoc, append-nil}
 use mathlib.Core.Logic.{_⊎_, inl, inr, ⊎-elim}
 use mathlib.Core.Option.{Option, none, some, Option·none-ne-some, Option·some-injective}
@@ -10,7 +10,8 @@ use native.Mathlib.Omega.{arith}
 use lib.ListN.{length, take, drop, length-append}
 use lib.Seq.{take-append-seam, drop-at}
 use Rattle.theory.specs.Lists.{In, anyIn, find, each, Rising}
-use Rattle.theory.proofs.Below.{clash, or-cases, or-left, or-right}
+use Rattle.theory.specs.Below.{any}
+use Rattle.theory.proofs.Below.{clash, both-ways, or-cases, or-left, or-right, any-at, any-find, any-same}
 
 module _ {A : Type 0} where
   pub no-some : {x : A} → _≡_ {A = Option A} none (some x) → ⊥
@@ -100,6 +101,28 @@ module _ {A : Type 0} where
     any-in-find [] e = absurd (true≢false (sym e))
     any-in-find (y ∷ xs) e =
         ⊎-elim (λ h. (y, inl refl, h)) (λ h. (let r = any-in-find xs h in (r .0, inr (r .1), r .2))) (or-cases (f y) (anyIn f xs) e)
+
+    -- one of the lists of 0, 1, .. n - 1 has such an element
+    pub any-in-each : (n : ℕ) (h : ℕ → List A) → anyIn f (each n h) ≡ any n (λ i. anyIn f (h i))
+    any-in-each n h =
+        both-ways
+        (λ t.
+        let r = any-in-find (each n h) t in
+        let w = in-each (r .0) n h (r .1) in
+        any-at n (λ i. anyIn f (h i)) (w .index) (w .below) (any-in-at (h (w .index)) (w .here) (r .2)))
+        (λ t.
+        let b = any-find n (λ i. anyIn f (h i)) t in
+        let r = any-in-find (h (b .0)) (b .2) in
+        any-in-at (each n h) (each-in (r .0) n h (b .0) (b .1) (r .1)) (r .2))
+
+    -- the same where each list has one element
+    pub any-in-ones : (n : ℕ) (h : ℕ → A) → anyIn f (each n (λ i. h i ∷ [])) ≡ any n (λ i. f (h i))
+    unfolding anyIn
+    any-in-ones n h = any-in-each n (λ i. h i ∷ []) ∙ any-same n (λ i. f (h i) || false) (λ i. f (h i)) (λ i l. or-false (f (h i)))
+      where
+        or-false : (b : Bool) → (b || false) ≡ b
+        or-false true = refl
+        or-false false = refl
 
     pub find-none : (xs : List A) → ((x : A) → In x xs → f x ≡ false) → find f xs ≡ none
     unfolding find

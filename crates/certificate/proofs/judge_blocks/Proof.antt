@@ -55,7 +55,7 @@ judge-faults-requires c κs =
     let d = c .before .before .before in
     let s = d .before .before .before .before .before .before in
     let numbered = numbered-of {c = s .args .blocks .now} (s .pre .rows .states-most) (passed d) in
-    (s .pre .rows, s .pre .well-formed .symbols-least, s .pre .well-formed .start-in, numbered .size)
+    (s .pre .rows, s .pre .well-formed .start-in, numbered .size)
 
 returns-3 : tie.Need-returns-3
 returns-3 c =
