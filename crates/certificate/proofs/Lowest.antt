@@ -1,6 +1,6 @@
 -- The lowest state of a block: how the lowest states are entered, and that comparing with them finds the same place as comparing with every lower state.
 use mathlib.Core.Path.{_≡_, refl, sym, ap, _∙_, subst}
-use mathlib.Core.Bool.{Bool, true, false, not, cond, _&&_}
+use mathlib.Core.Bool.{Bool, true, false, not, cond}
 use mathlib.Core.List.{List}
 use mathlib.Core.Logic.{⊎-elim}
 use Prim.Native.Nat.{ℕ, suc, _-_, _≤_, _<_, zero-le}
@@ -13,8 +13,8 @@ use borrow.Author.Tests.{eqb-true, eqb-false, eq-eqb, not-true}
 use Rattle.theory.specs.Below.{first}
 use Rattle.theory.specs.Monitor.{stateLimit}
 use Rattle.theory.specs.Certificate.{blockOf, sameBlock, disagrees}
-use Rattle.theory.proofs.Below.{clash, not-clash, is-true, and-left, and-right, lt-or-le, any-find, first-is, first-le, first-below, first-here}
-use Rattle.theory.proofs.Certificate.{Equivalence, disagrees-at}
+use Rattle.theory.proofs.Below.{clash, not-clash, is-true, lt-or-le, first-is, first-le, first-below, first-here}
+use Rattle.theory.proofs.Certificate.{Equivalence, disagrees-at, disagrees-by}
 use Rattle.certificate.specs.Agreeing.{Numbered, lowestIn, Lowest}
 
 -- ---- entering them, from the highest state down
@@ -71,38 +71,36 @@ module _ (c : List ℕ) where
   lowest-same : (p q : ℕ) → blockOf c p ≡ blockOf c q → lowestIn c p ≡ lowestIn c q
   lowest-same p q e = ap (λ (b : ℕ). first (λ x. eqb (blockOf c x) b) 0 (length c)) e
 
-  -- comparing with the lowest state of the block finds the same place as comparing with every lower state of it
-  module _ (agree : ℕ → ℕ → Bool) (equal : Equivalence agree) where
+  module _ (agree : ℕ → ℕ → Bool) where
     abbrev pub differsFromLowest : ℕ → Bool
     differsFromLowest q = not (agree (lowestIn c q) q)
 
     abbrev place : ℕ
     place = first differsFromLowest 0 (length c)
 
-    found : (q : ℕ) → q < length c → differsFromLowest q ≡ true → disagrees agree c q ≡ true
-    found q l e =
-        let differs = not-true (agree (lowestIn c q) q) e in
-        let below : lowestIn c q < q = ⊎-elim (λ (s : lowestIn c q < q). s)
-        (λ (s : q ≤ lowestIn c q). absurd (clash (subst (λ (z : ℕ). agree z q ≡ true) (le-antisymm s (lowest-most q l)) (equal .itself q)) differs))
-        (lt-or-le (lowestIn c q) q) in
-        disagrees-at agree equal c (lowestIn c q) q below (lowest-block q l) differs
+    -- comparing with the lowest state of the block finds the same place as comparing with every lower state of it
+    module _ (equal : Equivalence agree) where
+      found : (q : ℕ) → q < length c → differsFromLowest q ≡ true → disagrees agree c q ≡ true
+      found q l e =
+          let differs = not-true (agree (lowestIn c q) q) e in
+          let below : lowestIn c q < q = ⊎-elim (λ (s : lowestIn c q < q). s)
+          (λ (s : q ≤ lowestIn c q). absurd (clash (subst (λ (z : ℕ). agree z q ≡ true) (le-antisymm s (lowest-most q l)) (equal .itself q)) differs))
+          (lt-or-le (lowestIn c q) q) in
+          disagrees-at agree c (lowestIn c q) q below (lowest-block q l) differs
 
-    passed : (q : ℕ) → q < place → disagrees agree c q ≡ true → ⊥
-    passed q l t =
-        let b = any-find q (λ p. sameBlock c p q && not (agree p q)) t in
-        let p = b .0 in
-        let one = eqb-true (blockOf c p) (blockOf c q) (and-left (sameBlock c p q) (not (agree p q)) (b .2)) in
-        let near = agrees p (omega (arith, b .1, l)) in
-        clash (equal .others (lowestIn c q) p q (subst (λ (z : ℕ). agree z p ≡ true) (lowest-same p q one) near) (agrees q l))
-        (not-true (agree p q) (and-right (sameBlock c p q) (not (agree p q)) (b .2)))
-      where
-        agrees : (p : ℕ) → p < place → agree (lowestIn c p) p ≡ true
-        agrees p s = is-true (λ h. clash (ap not h) (first-below differsFromLowest 0 (length c) p zero-le s))
+      passed : (q : ℕ) → q < place → disagrees agree c q ≡ true → ⊥
+      passed q l t =
+          let d = disagrees-by agree c q t in
+          let near = subst (λ (z : ℕ). agree z (d .0) ≡ true) (lowest-same (d .0) q (d .2)) (agrees (d .0) (omega (arith, d .1, l))) in
+          clash (equal .others (lowestIn c q) (d .0) q near (agrees q l)) (d .3)
+        where
+          agrees : (p : ℕ) → p < place → agree (lowestIn c p) p ≡ true
+          agrees p s = is-true (λ h. clash (ap not h) (first-below differsFromLowest 0 (length c) p zero-le s))
 
-    pub same-place : first (disagrees agree c) 0 (length c) ≡ place
-    same-place =
-        first-is (disagrees agree c) (length c) 0 place zero-le (first-le differsFromLowest 0 (length c)) (λ q _ l. not-clash (passed q l))
-        (λ l. found place (omega (arith, l)) (first-here differsFromLowest 0 (length c) l))
+      pub same-place : first (disagrees agree c) 0 (length c) ≡ place
+      same-place =
+          first-is (disagrees agree c) (length c) 0 place zero-le (first-le differsFromLowest 0 (length c)) (λ q _ l. not-clash (passed q l))
+          (λ l. found place (omega (arith, l)) (first-here differsFromLowest 0 (length c) l))
 
-    pub by-lowest : {n : ℕ} → length c ≡ n → first (disagrees agree c) 0 n ≡ first differsFromLowest 0 n
-    by-lowest e = subst (λ (n : ℕ). first (disagrees agree c) 0 n ≡ first differsFromLowest 0 n) e same-place
+      pub by-lowest : {n : ℕ} → length c ≡ n → first (disagrees agree c) 0 n ≡ first differsFromLowest 0 n
+      by-lowest e = subst (λ (n : ℕ). first (disagrees agree c) 0 n ≡ first differsFromLowest 0 n) e same-place

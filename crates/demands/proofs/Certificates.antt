@@ -17,7 +17,7 @@ use Rattle.theory.specs.Faults.{allFaults}
 use Rattle.theory.specs.Certificate.{Certificate, disagrees, readAlike, stepAlike, parted, NeverApart, madeBlocks}
 use Rattle.theory.proofs.Below.{or-cases}
 use Rattle.theory.proofs.Answer.{answered-all}
-use Rattle.theory.proofs.Certificate.{readings-equal, steps-equal, step-at, step-all, none-disagrees, agree-none, none-parted, agree-unparted, valid-immune}
+use Rattle.theory.proofs.Certificate.{equal-numbers, steps-equal, step-at, step-all, none-disagrees, agree-none, none-parted, agree-unparted, valid-immune}
 use Rattle.theory.proofs.Certificate.{lowest-never, lowest-least, made-block, made-valid}
 use Rattle.monitor.specs.Format.{statesOf, monitorOf}
 use Rattle.monitor.specs.Questions.{firstNotBelow, judgeAnswer, noValues, question9, question10}
@@ -46,20 +46,23 @@ module _ (limit : ℕ) (b : List ℕ) (e : judgeAnswer limit b ≡ answered []) 
     unfolding certificateAnswer
     left = accepted-asks limit b (certificateQuestions set d c m) noValues e
 
-    -- all answered yes: the certificate is valid
+    -- all are answered yes of one that is accepted
+    all-yes : certificateAnswer limit b set d c ≡ answered noValues → (q : Question) → In q (certificateQuestions set d c m) → q .yes ≡ true
+    all-yes a = answered-all (certificateQuestions set d c m) noValues (sym left ∙ a)
+
     valid : certificateAnswer limit b set d c ≡ answered noValues → Certificate m d set c
     valid a = record {
       size = size;
       below = λ q l. all-below n c (eqb-true (firstNotBelow n c) (length c) (all (question15 n c) (inr (inr (inr (inl refl)))))) q (omega (arith, size, l));
-      readings = λ p q lp lq same. eqb-true (reading m d p) (reading m d q) (none-disagrees (readAlike m d) (readings-equal m d) c n
+      readings = λ p q lp lq same. eqb-true (reading m d p) (reading m d q) (none-disagrees (readAlike m d) c (equal-numbers (reading m d)) n
           (place (first (disagrees (readAlike m d) c) 0 n) (all (question16 m d c) (inr (inr (inr (inr (inl refl))))))) p q lp lq same);
-      messages = λ p q a lp lq la same. step-at (m .automaton) c p q (none-disagrees (stepAlike (m .automaton) c) (steps-equal (m .automaton) c) c n
+      messages = λ p q a lp lq la same. step-at (m .automaton) c p q (none-disagrees (stepAlike (m .automaton) c) c (steps-equal (m .automaton) c) n
           (place (first (disagrees (stepAlike (m .automaton) c) c) 0 n) (all (question17 m c) (inr (inr (inr (inr (inr (inl refl)))))))) p q lp lq same) a la;
       faults = none-parted w set c (place (first (parted m set c) 0 n) (all (question18 m set c) (inr (inr (inr (inr (inr (inr (inl refl)))))))));
     }
       where
         all : (q : Question) → In q (certificateQuestions set d c m) → q .yes ≡ true
-        all = answered-all (certificateQuestions set d c m) noValues (sym left ∙ a)
+        all = all-yes a
 
         size : length c ≡ n
         size = eqb-true (length c) n (all (question14 n c) (inr (inr (inl refl))))
@@ -74,11 +77,11 @@ module _ (limit : ℕ) (b : List ℕ) (e : judgeAnswer limit b ≡ answered []) 
         numbers = eq-eqb (firstNotBelow n c) (length c) (below-all n c (λ q l. v .below q (omega (arith, v .size, l))))
 
         equal : eqb (first (disagrees (readAlike m d) c) 0 n) n ≡ true
-        equal = eq-eqb _ n (agree-none (readAlike m d) (readings-equal m d) c n
+        equal = eq-eqb _ n (agree-none (readAlike m d) c n
             (λ p q lp lq s. eq-eqb (reading m d p) (reading m d q) (v .readings p q lp lq s)))
 
         joined : eqb (first (disagrees (stepAlike (m .automaton) c) c) 0 n) n ≡ true
-        joined = eq-eqb _ n (agree-none (stepAlike (m .automaton) c) (steps-equal (m .automaton) c) c n
+        joined = eq-eqb _ n (agree-none (stepAlike (m .automaton) c) c n
             (λ p q lp lq s. step-all (m .automaton) c p q (λ a la. v .messages p q a lp lq la s)))
 
         together : eqb (first (parted m set c) 0 n) n ≡ true
@@ -87,13 +90,11 @@ module _ (limit : ℕ) (b : List ℕ) (e : judgeAnswer limit b ≡ answered []) 
   said : (c : List ℕ) (room : ℕ) → certificateAnswer limit b set d c ≡ answered noValues → faultAnswer limit b set d room ≡ answered none
   said c room a = demand-two limit b e set d room .immune-exactly asked .1 (valid-immune w (valid c a))
     where
-      all : (q : Question) → In q (certificateQuestions set d c m) → q .yes ≡ true
-      all = answered-all (certificateQuestions set d c m) noValues (sym (left c) ∙ a)
-
       asked : Askable set d
       asked = record {
-        set-most = leb-true set allFaults (all (question9 set) (inl refl));
-        reading-known = ⊎-elim (λ h. inl (eqb-true d 3 h)) (λ h. inr (eqb-true d 6 h)) (or-cases (eqb d 3) (eqb d 6) (all (question10 d) (inr (inl refl))));
+        set-most = leb-true set allFaults (all-yes c a (question9 set) (inl refl));
+        reading-known = ⊎-elim (λ h. inl (eqb-true d 3 h)) (λ h. inr (eqb-true d 6 h))
+            (or-cases (eqb d 3) (eqb d 6) (all-yes c a (question10 d) (inr (inl refl))));
       }
 
   writes : (room : ℕ) → (d ≡ 3) ⊎ (d ≡ 6) → n ≤ room → blocksAnswer limit b d room ≡ answered (n ∷ [])

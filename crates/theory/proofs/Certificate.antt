@@ -17,7 +17,7 @@ use Rattle.theory.specs.Pairs.{told}
 use Rattle.theory.specs.Faults.{FaultStep}
 use Rattle.theory.specs.Series.{Series}
 use Rattle.theory.specs.Distance.{differ, faultsOf}
-use Rattle.theory.specs.Certificate.{blockOf, Certificate, sameBlock, disagrees, readAlike, stepAlike, parts, parted, NeverApart, alike, lowestAlike}
+use Rattle.theory.specs.Certificate.{blockOf, Certificate, sameBlock, disagrees, stepAlike, parts, parted, NeverApart, alike, lowestAlike}
 use Rattle.theory.specs.Certificate.{madeBlocks}
 use Rattle.theory.proofs.Below.{clash, not-clash, is-true, and-left, and-right, and-both, lt-or-le, any-at, any-find, every-at, every-all}
 use Rattle.theory.proofs.Below.{first-is, first-le, first-below, first-here}
@@ -37,22 +37,33 @@ pub record Equivalence (agree : ℕ → ℕ → Bool) : Type 0 where
   pub itself : (p : ℕ) → agree p p ≡ true
   pub others : (r p q : ℕ) → agree r p ≡ true → agree r q ≡ true → agree p q ≡ true
 
--- no state is at fault: the first of n states that disagrees with a lower state of its block is n
-module _ (agree : ℕ → ℕ → Bool) (equal : Equivalence agree) (c : List ℕ) where
+module _ (agree : ℕ → ℕ → Bool) (c : List ℕ) where
   -- states of a block agree
   abbrev pub BlocksAgree : ℕ → Type 0
   BlocksAgree n = (p q : ℕ) → p < n → q < n → blockOf c p ≡ blockOf c q → agree p q ≡ true
 
-  -- p is a lower state of the block of q, and they disagree
+  -- p is in the block of q, and they disagree
   abbrev against : ℕ → ℕ → Bool
   against q p = sameBlock c p q && not (agree p q)
 
+  -- q disagrees exactly if some lower state of its block is against it
   pub disagrees-at : (p q : ℕ) → p < q → blockOf c p ≡ blockOf c q → agree p q ≡ false → disagrees agree c q ≡ true
   disagrees-at p q l e h =
       any-at q (against q) p l (and-both (sameBlock c p q) (not (agree p q)) (eq-eqb (blockOf c p) (blockOf c q) e) (ap not h))
 
-  pub none-disagrees : (n : ℕ) → first (disagrees agree c) 0 n ≡ n → BlocksAgree n
-  none-disagrees n none p q lp lq e =
+  pub disagrees-by : (q : ℕ) → disagrees agree c q ≡ true → (p : ℕ) × (p < q) × (blockOf c p ≡ blockOf c q) × (agree p q ≡ false)
+  disagrees-by q t =
+      let b = any-find q (against q) t in
+      let p = b .0 in (
+        p,
+        b .1,
+        eqb-true (blockOf c p) (blockOf c q) (and-left (sameBlock c p q) (not (agree p q)) (b .2)),
+        not-true (agree p q) (and-right (sameBlock c p q) (not (agree p q)) (b .2)),
+      )
+
+  -- no state is at fault: the first of n states that disagrees with a lower state of its block is n
+  pub none-disagrees : Equivalence agree → (n : ℕ) → first (disagrees agree c) 0 n ≡ n → BlocksAgree n
+  none-disagrees equal n none p q lp lq e =
       ⊎-elim (λ l. lower p q l lq e)
       (λ (l : q ≤ p). ⊎-elim (λ l. equal .others q p q (lower q p l lp (sym e)) (equal .itself q))
       (λ (m : p ≤ q). subst (λ (x : ℕ). agree p x ≡ true) (le-antisymm m l) (equal .itself p)) (lt-or-le q p)) (lt-or-le p q)
@@ -61,14 +72,10 @@ module _ (agree : ℕ → ℕ → Bool) (equal : Equivalence agree) (c : List �
       lower p q l lq e = is-true (λ h. clash (disagrees-at p q l e h) (first-below (disagrees agree c) 0 n q zero-le (omega (arith, none, lq))))
 
   pub agree-none : (n : ℕ) → BlocksAgree n → first (disagrees agree c) 0 n ≡ n
-  agree-none n all = first-is (disagrees agree c) n 0 n zero-le (omega arith) (λ q _ l. not-clash (fault q l)) (λ l. absurd (omega arith))
-    where
-      fault : (q : ℕ) → q < n → disagrees agree c q ≡ true → ⊥
-      fault q l t =
-          let b = any-find q (against q) t in
-          let p = b .0 in
-          clash (all p q (omega (arith, b .1, l)) l (eqb-true (blockOf c p) (blockOf c q) (and-left (sameBlock c p q) (not (agree p q)) (b .2))))
-          (not-true (agree p q) (and-right (sameBlock c p q) (not (agree p q)) (b .2)))
+  agree-none n all =
+      first-is (disagrees agree c) n 0 n zero-le (omega arith)
+      (λ q _ l. not-clash (λ t. (let d = disagrees-by q t in clash (all (d .0) q (omega (arith, d .1, l)) l (d .2)) (d .3))))
+      (λ l. absurd (omega arith))
 
 -- ---- the tests of questions 16, 17 and 18
 
@@ -77,9 +84,6 @@ equal-numbers f = record {
   itself = λ p. eq-eqb (f p) (f p) refl;
   others = λ r p q a b. eq-eqb (f p) (f q) (sym (eqb-true (f r) (f p) a) ∙ eqb-true (f r) (f q) b);
 }
-
-pub readings-equal : (m : Monitor) (d : ℕ) → Equivalence (readAlike m d)
-readings-equal m d = equal-numbers (reading m d)
 
 module _ (g : Automaton) (c : List ℕ) where
   pub step-at : (p q : ℕ) → stepAlike g c p q ≡ true → (a : ℕ) → a < g .symbols → blockOf c (g .next p a) ≡ blockOf c (g .next q a)

@@ -13,8 +13,7 @@ use Rattle.certificate.proofs.first_disagreeing.Tie as tie
 
 abbrev Inv-loop : tie.InvT-loop
 Inv-loop agreement outputs nexts n k blocks lowest q₀ q =
-    let g = automatonOf n k nexts in
-    Passed (differsFromLowest blocks (agreeing agreement g outputs blocks) (agreeing-equal agreement g outputs blocks)) 0 n q
+    Passed (differsFromLowest blocks (agreeing agreement (automatonOf n k nexts) outputs blocks)) 0 n q
 
 abbrev μ-loop : tie.MeasureT-loop
 μ-loop agreement outputs nexts n k blocks lowest q₀ q = n - q
