@@ -76,6 +76,16 @@ def sets():
     }
 
 
+def goal_sets():
+    """The sets of tables by which the goals of speed are set, each with its name."""
+    r = random.Random(8)
+    return {
+        "58 random, n = 64, k = 16": [random_table(r, 64, 16) for _ in range(58)],
+        "58 chains, n = 64, k = 16": [chain_table(r, 64, 16) for _ in range(58)],
+        "400 small, n = 2 to 11, k = 2 to 5": [r.choice((random_table, chain_table))(r, r.randint(2, 11), r.randint(2, 5)) for _ in range(400)],
+    }
+
+
 def growth():
     """Ten tables of each kind and size: (kind, n, k, tables). Those of 128 states have a generator of their own, as in sets()."""
     r, large = random.Random(2), random.Random(5)
