@@ -42,8 +42,11 @@ fn outlook_of(marks: &[u8], nexts: &[u8], n: usize, k: usize) -> Outlook
     ensures falsity { λ r. ⌜ Exactly n (leads (graph n k (nexts .entry)) (hasMark (now (marks .entry)) 2))
         (r .falsity) ⌝ }
 {
-    let truth = reach::reaching(nexts, n, k, opening::states_marked(marks, 1));
-    let falsity = reach::reaching(nexts, n, k, opening::states_marked(marks, 2));
+    let marked_true = opening::states_marked(marks, 1);
+    let marked_false = opening::states_marked(marks, 2);
+    let sources = reach::reaching(nexts, n, k, marked_true, marked_false);
+    let truth = sources.one;
+    let falsity = sources.other;
     Outlook { truth, falsity }
 }
 

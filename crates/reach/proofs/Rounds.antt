@@ -6,28 +6,27 @@ use native.Mathlib.Nat.{lt-of-lt-of-le}
 use native.Mathlib.Omega.{arith}
 use lib.Dec.{eqb, ltb}
 use borrow.Author.Tests.{eq-eqb, not-true}
-use Rattle.theory.specs.Below.{any, count, first}
-use Rattle.theory.specs.Automaton.{Automaton, Closed, reachedFrom}
+use Rattle.theory.specs.Below.{count, first}
+use Rattle.theory.specs.Automaton.{Automaton}
 use Rattle.theory.proofs.Below.{or-left, or-right, and-left, and-right, count-le, count-mono, count-more, count-full, first-below, first-here}
-use Rattle.reach.specs.Closure.{leadsTo, spread, Least}
+use Rattle.reach.specs.Closure.{spread, Least}
+use Rattle.reach.specs.Predecessors.{Joined}
 use Rattle.reach.proofs.Closure.{Expanding, expanding-first, expanding-turn, expanding-last, Widening, widening-turn, widening-last, spread-keeps}
 use Rattle.reach.proofs.Steps.{with-in}
 
 -- ---- expanding the lowest state q that is left
 
-pub expand-first : (g : Automaton) (limit s : ℕ) (none seen done : ℕ → Bool) → s < limit → ((p : ℕ) → none p ≡ false)
+pub expand-first : {n : ℕ} {adds : ℕ → ℕ → Bool} (limit s : ℕ) (none seen done : ℕ → Bool) → s < limit → ((p : ℕ) → none p ≡ false)
     → ((p : ℕ) → seen p ≡ (none p || (eqb p s && ltb s limit)))
-    → ((p : ℕ) → done p ≡ false) → Expanding g s seen done
-expand-first g limit s none seen done l n e d =
-    expanding-first g s seen done (λ p. with-in limit s none seen l e p ∙ ap (λ (b : Bool). b || eqb p s) (n p)) d
+    → ((p : ℕ) → done p ≡ false) → Expanding n adds (λ p. eqb p s) seen done
+expand-first limit s none seen done l n e d = expanding-first (λ p. with-in limit s none seen l e p ∙ ap (λ (b : Bool). b || eqb p s) (n p)) d
 
-module _ {g : Automaton} {s : ℕ} {seen done : ℕ → Bool} (x : Expanding g s seen done) (limit : ℕ) (small : g .states ≤ limit) (left : ℕ → Bool)
+module _ {n : ℕ} {adds : ℕ → ℕ → Bool} {f seen done : ℕ → Bool} (x : Expanding n adds f seen done) (limit : ℕ) (small : n ≤ limit) (left : ℕ → Bool)
     (l : (p : ℕ) → left p ≡ (seen p && not (done p))) (q : ℕ) (lowest : q ≡ first left 0 limit) where
-  pub expand-last : Closed g → s < g .states → g .states ≤ q → (p : ℕ) → seen p ≡ (ltb p (g .states) && reachedFrom g s p)
-  expand-last c h none =
-      expanding-last g c h x (λ p b. sym (l p) ∙ first-below left 0 limit p zero-le (lt-of-lt-of-le b (omega (arith, none, lowest))))
+  pub expand-last : n ≤ q → Joined n adds f seen
+  expand-last none = expanding-last x (λ p b. sym (l p) ∙ first-below left 0 limit p zero-le (lt-of-lt-of-le b (omega (arith, none, lowest))))
 
-  module _ (some : q < g .states) where
+  module _ (some : q < n) where
     picked : (seen q && not (done q)) ≡ true
     picked = sym (l q) ∙ ap left lowest ∙ first-here left 0 limit (omega (arith, some, small, lowest))
 
@@ -47,9 +46,8 @@ module _ {g : Automaton} {s : ℕ} {seen done : ℕ → Bool} (x : Expanding g s
           let keeps : (p : ℕ) → p < limit → done p ≡ true → done′ p ≡ true = λ p _ t. one-more p ∙ or-left (done p) (eqb p q) t in
           omega (arith, count-more limit done done′ keeps q (lt-of-lt-of-le some small) not-done here, count-le limit done′)
 
-      pub expand-turn : (out seen′ : ℕ → Bool) → ((p : ℕ) → out p ≡ any (g .symbols) (leadsTo g q p)) → ((p : ℕ) → seen′ p ≡ (seen p || out p))
-          → Expanding g s seen′ done′
-      expand-turn out seen′ o e = expanding-turn g seen′ done′ q x is-seen one-more (λ p. e p ∙ ap (λ (b : Bool). seen p || b) (o p))
+      pub expand-turn : (out seen′ : ℕ → Bool) → ((p : ℕ) → out p ≡ adds q p) → ((p : ℕ) → seen′ p ≡ (seen p || out p)) → Expanding n adds f seen′ done′
+      expand-turn out seen′ o e = expanding-turn seen′ done′ q x some is-seen one-more (λ p. e p ∙ ap (λ (b : Bool). seen p || b) (o p))
 
 -- ---- widening by all states
 

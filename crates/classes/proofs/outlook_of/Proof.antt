@@ -7,13 +7,12 @@ use Rattle.classes.proofs.outlook_of.Tie as tie
 
 returns : tie.Need-returns
 returns c =
-    let s = c .before .before .before .before .before .before in
-    let g = next-of-rows (s .pre .0) in (
-      reaching-is g (exactly-at (s .pre .1) (c .before .before .before .states-marked .ensures)) (c .before .before .reaching .ensures),
-      reaching-is g (exactly-at (s .pre .1) (c .before .states-marked2 .ensures)) (c .reaching2 .ensures),
+    let s = c .before .before .before .before .before .before .before in
+    let g = next-of-rows (s .pre .0) in
+    let sources = c .before .before .reaching .ensures in (
+      reaching-is g (exactly-at (s .pre .1) (c .before .before .before .before .states-marked .ensures)) (sources .0),
+      reaching-is g (exactly-at (s .pre .1) (c .before .before .before .states-marked2 .ensures)) (sources .1),
     )
 
 pub outlook-of-spec : {M : Type 1} → statement M
-outlook-of-spec =
-    tie.close (tie.spec
-    (λ c κs. search needs) (λ c κs. search needs) (λ c κs. search needs) (λ c κs. search needs) returns)
+outlook-of-spec = tie.close (tie.spec (λ c κs. search needs) (λ c κs. search needs) (λ c κs. search needs) returns)

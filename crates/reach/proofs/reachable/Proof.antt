@@ -2,18 +2,21 @@
 use Prim.Native.Nat.{_-_}
 use native.Mathlib.Nat.{lt-of-lt-of-le}
 use borrow.Author.Needs.{needs}
-use Rattle.theory.specs.Below.{count}
+use lib.Dec.{eqb}
+use Rattle.theory.specs.Below.{any, count}
 use Rattle.theory.specs.Monitor.{stateLimit}
 use Rattle.state_set.specs.Member.{member}
 use Rattle.monitor.specs.Format.{automatonOf}
 use Rattle.monitor.proofs.Rows.{next-of-rows}
-use Rattle.reach.proofs.Closure.{Expanding}
+use Rattle.reach.specs.Closure.{leadsTo}
+use Rattle.reach.proofs.Closure.{Expanding, joined-reached}
 use Rattle.reach.proofs.Rounds.{expand-first, expand-turn, expand-less, expand-last}
 use Rattle.reach.proofs.reachable.Statement.{statement}
 use Rattle.reach.proofs.reachable.Tie as tie
 
 abbrev Inv-loop : tie.InvT-loop
-Inv-loop nexts n k start seen₀ expanded₀ seen expanded = Expanding (automatonOf n k nexts) start (member seen) (member expanded)
+Inv-loop nexts n k start seen₀ expanded₀ seen expanded =
+    Expanding n (λ q p. any k (leadsTo (automatonOf n k nexts) q p)) (λ p. eqb p start) (member seen) (member expanded)
 
 abbrev μ-loop : tie.MeasureT-loop
 μ-loop nexts n k start seen₀ expanded₀ seen expanded = stateLimit - count stateLimit (member expanded)
@@ -25,17 +28,18 @@ loop-holds c =
     let none = c .before .before .empty in
     let seen = c .before .with in
     let done = c .empty2 in
-    expand-first (automatonOf (a .n) (a .k) (a .nexts .now)) stateLimit (a .start) (member (none .result)) (member (seen .result)) (member (done .result))
+    expand-first stateLimit (a .start) (member (none .result)) (member (seen .result)) (member (done .result))
     (lt-of-lt-of-le (pre .1) (pre .0 .states-most)) (none .ensures) (seen .ensures) (done .ensures)
 
 returns : tie.Need-returns Inv-loop μ-loop
 returns c =
+    let a = c .before .before .before .before .before .before .before .before .args in
     let pre = c .before .before .before .before .before .before .before .before .pre in
     let left = c .before .before .minus in
     let low = c .before .lowest in
     let all = expand-last (c .before .before .before .loop .inv) stateLimit (pre .0 .states-most) (member (left .result)) (left .ensures)
-    (low .result) (low .ensures) (next-of-rows (pre .0)) (pre .1) (c .if1 .taken) in
-    record { at = all }
+    (low .result) (low .ensures) (c .if1 .taken) in
+    record { at = joined-reached (automatonOf (a .n) (a .k) (a .nexts .now)) (next-of-rows (pre .0)) (pre .1) all }
 
 loop-less : tie.Need-loop-less Inv-loop μ-loop
 loop-less c =

@@ -1,13 +1,19 @@
--- `reaching` meets its contract: the least test is what `leads` says.
+-- `reaching` meets its contract: either way the sets are empty, and there is room for n states.
+use Prim.Native.Nat.{_*_}
+use native.Mathlib.Omega.{arith}
 use borrow.Author.Needs.{needs}
-use Rattle.state_set.specs.Member.{member}
-use Rattle.monitor.proofs.Rows.{next-of-rows}
-use Rattle.reach.proofs.Closure.{least-leads}
+use Rattle.theory.specs.Monitor.{stateLimit}
+use Rattle.reach.proofs.Predecessors.{preceding-none}
 use Rattle.reach.proofs.reaching.Statement.{statement}
 use Rattle.reach.proofs.reaching.Tie as tie
 
-returns : tie.Need-returns
-returns c = least-leads (next-of-rows (c .before .before .pre)) (member (c .before .before .args .targets)) (c .widen-fully .ensures)
+reaching-in-requires : tie.Need-reaching-in-requires
+reaching-in-requires c κs = (c .before .before .before .pre, preceding-none (16 * 2) (omega (arith, c .before .if1 .taken)))
+
+reaching-in-requires-2 : tie.Need-reaching-in-requires-2
+reaching-in-requires-2 c κs = (let rows = c .before .before .before .pre in (rows, preceding-none (stateLimit * 2) (omega (arith, rows .states-most))))
 
 pub reaching-spec : {M : Type 1} → statement M
-reaching-spec = tie.close (tie.spec (λ c κs. search needs) returns)
+reaching-spec =
+    tie.close (tie.spec
+    (λ c. search needs) reaching-in-requires (λ c. search needs) (λ c. search needs) reaching-in-requires-2 (λ c. search needs))
