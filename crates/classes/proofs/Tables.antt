@@ -18,7 +18,7 @@ use Rattle.state_set.specs.declared.StateSet.{StateSet}
 use Rattle.state_set.specs.Member.{member, Exactly}
 use Rattle.monitor.specs.Format.{automatonOf, tableOf, Table}
 use Rattle.reach.proofs.Exactly.{exactly-in, exactly-out}
-use Rattle.opening.specs.Sets.{hasMark}
+use Rattle.opening.specs.Marks.{hasMark}
 use Rattle.classes.specs.Sets.{classBy, uglyBy, monitorabilityBy}
 use Rattle.classes.specs.Classify.{classifyFigures}
 

@@ -9,13 +9,12 @@ use Rattle.theory.specs.Answer.{Question, Answer, answered, asks, written}
 use Rattle.theory.specs.Monitor.{Monitor}
 use Rattle.basics.specs.Refusals.{refusal}
 use Rattle.basics.specs.declared.Refusal.{Refusal}
-use Rattle.monitor.specs.Format.{statesOf, symbolsOf, startOf, drawnMarks, settledMarks, marks, nexts, tableOf, monitorOf, Rows, Table}
+use Rattle.monitor.specs.Format.{statesOf, symbolsOf, startOf, drawnMarks, settledMarks, marks, nexts, tableOf, monitorOf, Table}
 use Rattle.monitor.specs.Questions.{tableQuestions, judgeAnswer, judgement}
 use Rattle.monitor.specs.declared.Shape.{Shape}
 use Rattle.monitor.specs.declared.Judgement.{Judgement}
 use Rattle.monitor.specs.declared.Judgement.the-variants.{Accepted, Refused}
-use Rattle.monitor.proofs.Body.{marks-length}
-use Rattle.monitor.proofs.Accepted.{accepted-head, accepted-table, accepted-asks}
+use Rattle.monitor.proofs.Accepted.{accepted-drawn, accepted-table, accepted-asks}
 use Rattle.opening.specs.Opens.{Accepts, Opens}
 use Rattle.opening.specs.declared.Opened.{Opened}
 use Rattle.opening.specs.declared.Opened.the-variants as opened
@@ -26,19 +25,20 @@ module _ (limit : ℕ) (b : List ℕ) {r : Judgement} (e : judgement r ≡ judge
   pub opened-refused : {x : Refusal} → r ≡ Refused x → judgeAnswer limit b ≡ refusal x
   opened-refused h = sym e ∙ ap judgement h
 
-  module _ (h : r ≡ Accepted) {n k : ℕ} (en : n ≡ statesOf b) (ek : k ≡ symbolsOf b) {vs ts : List ℕ} (ev : vs ≡ drawnMarks b) (et : ts ≡ nexts b) where
+  module _ (h : r ≡ Accepted) {n k s : ℕ} (en : n ≡ statesOf b) (ek : k ≡ symbolsOf b) (es : s ≡ startOf b) {vs ts : List ℕ} (ev : vs ≡ drawnMarks b)
+      (et : ts ≡ nexts b) where
     accepted : judgeAnswer limit b ≡ answered []
     accepted = sym e ∙ ap judgement h
 
     -- what settling requires of them and of the area
-    pub settling : (area : List ℕ) → length area ≡ limit → Rows limit n k ts × (length vs ≡ n) × (n ≤ length area)
+    pub settling : (area : List ℕ) → length area ≡ limit → Table limit n k s vs ts × (n ≤ length area)
     settling area size =
-        let rows = accepted-table limit b accepted .rows in
-        (rw (en, ek, et) rows, rw (ev, en) (marks-length (accepted-head limit b accepted)), rw (en, size) (rows .states-most))
+        let table = accepted-drawn limit b accepted in
+        (rw (en, ek, es, ev, et) table, rw (en, size) (table .rows .states-most))
 
-    pub opened-table : {s : ℕ} {space : List ℕ} (rest : List ℕ) → s ≡ startOf b → space ≡ settledMarks n k vs ts ++ rest
+    pub opened-table : {space : List ℕ} (rest : List ℕ) → space ≡ settledMarks n k vs ts ++ rest
         → Accepts limit b (record { states = n; symbols = k; start = s }) space
-    opened-table {space = space} rest es settled =
+    opened-table {space = space} rest settled =
         let table = accepted-table limit b accepted in
         let same : settledMarks n k vs ts ≡ marks b = rw (en, ek, ev, et) in
         let marks-are : take n space ≡ marks b =

@@ -5,15 +5,13 @@ use monitor::Shape;
 use state_set::StateSet;
 ghost use mathlib.Core.Path.{_≡_};
 ghost use mathlib.Core.List.{_++_};
-ghost use Prim.Native.Nat.{_≤_};
+ghost use Prim.Native.Nat.{_≤_, _<_};
 ghost use lib.ListN.{length, drop};
-ghost use Rattle.theory.specs.Below.{values};
-ghost use Rattle.theory.specs.Automaton.{inevitable};
 ghost use Rattle.theory.specs.Monitor.{stateLimit};
-ghost use Rattle.theory.specs.Settled.{settledFrom};
 ghost use Rattle.state_set.specs.Member.{Exactly};
 ghost use Rattle.monitor.specs.Format.{Rows, graph, settledMarks};
-ghost use Rattle.opening.specs.Sets.{hasMark, settledBy};
+ghost use Rattle.monitor.specs.Opening.{TableIn};
+ghost use Rattle.opening.specs.Marks.{hasMark, markIn, allLeadTo, newMark};
 ghost use Rattle.opening.specs.Opens.{Opens};
 
 // What opening a body answers.
@@ -38,57 +36,64 @@ pub fn states_marked(marks: &[u8], v: u8) -> StateSet
     set
 }
 
-// The states at which the mark v is settled.
-fn states_settled(drawn: &[u8], nexts: &[u8], n: usize, k: usize, v: u8) -> StateSet
+// Whether every symbol leads from q to a state with this mark.
+fn all_lead_to(marks: &[u8], nexts: &[u8], n: usize, k: usize, q: usize, mark: u8) -> bool
     requires { ⌜ Rows stateLimit n k (now nexts)
-        × (length (now drawn) ≡ n) ⌝ }
-    ensures { λ r. ⌜ Exactly n (inevitable (graph n k (nexts .entry)) (hasMark (now (drawn .entry)) v)) r ⌝ }
+        × (n ≤ length (now marks))
+        × (q < n) ⌝ }
+    ensures { λ r. ⌜ r ≡ allLeadTo (graph n k (nexts .entry)) (markIn (now (marks .entry))) q mark ⌝ }
 {
-    reach::inevitable(nexts, n, k, states_marked(drawn, v))
+    let mut a = 0;
+    while a < k {
+        if marks[monitor::successor(nexts, n, k, q, a)] != mark {
+            return false;
+        }
+        a += 1;
+    }
+    true
 }
 
-// What a mark counts as, by whether true and whether false is settled.
-fn settled_from(mark: u8, truth: bool, falsity: bool) -> u8
-    ensures { λ r. ⌜ r ≡ settledFrom mark truth falsity ⌝ }
+// The mark that q takes: that of its next states, where it has none and all of them have the same; else 0.
+fn new_mark(marks: &[u8], nexts: &[u8], n: usize, k: usize, q: usize) -> u8
+    requires { ⌜ Rows stateLimit n k (now nexts)
+        × (n ≤ length (now marks))
+        × (0 < k)
+        × (q < n) ⌝ }
+    ensures { λ r. ⌜ r ≡ newMark (graph n k (nexts .entry)) (markIn (now (marks .entry))) q ⌝ }
 {
-    if mark != 0 {
+    if marks[q] != 0 {
+        return 0;
+    }
+    let mark = marks[monitor::successor(nexts, n, k, q, 0)];
+    if mark == 0 {
+        return 0;
+    }
+    if all_lead_to(marks, nexts, n, k, q, mark) {
         return mark;
-    }
-    if truth {
-        return 1;
-    }
-    if falsity {
-        return 2;
     }
     0
 }
 
-// What the marks count as by these two sets, into the first places of the area.
-fn write_settled(drawn: &[u8], truth: StateSet, falsity: StateSet, area: &mut [u8])
-    requires { ⌜ length (now drawn) ≤ length (now area) ⌝ }
+// The settled marks of a table, into the first places of the area: the marks as drawn, and in their place one after the
+// other those that states take, until none takes any.
+fn settle(drawn: &[u8], nexts: &[u8], t: Shape, area: &mut [u8])
+    requires { ⌜ TableIn t drawn nexts
+        × (t .states ≤ length (now area)) ⌝ }
     ensures { λ _. ⌜ now (area .exit)
-        ≡ values (length (now (drawn .entry))) (settledBy (now (drawn .entry)) truth falsity)
-        ++ drop (length (now (drawn .entry))) (now (area .entry)) ⌝ }
+        ≡ settledMarks (t .states) (t .symbols) (now (drawn .entry)) (now (nexts .entry))
+        ++ drop (t .states) (now (area .entry)) ⌝ }
 {
+    bytes::copy(drawn, area);
     let mut q = 0;
-    while q < drawn.len() {
-        area[q] = settled_from(drawn[q], truth.has(q), falsity.has(q));
-        q += 1;
+    while q < t.states {
+        let mark = new_mark(area, nexts, t.states, t.symbols, q);
+        if mark == 0 {
+            q += 1;
+        } else {
+            area[q] = mark;
+            q = 0;
+        }
     }
-}
-
-// The settled marks of n states with k symbols, into the first places of the area: those of 02's note 5, where every
-// step keeps the marks drawn.
-pub fn settle(drawn: &[u8], nexts: &[u8], n: usize, k: usize, area: &mut [u8])
-    requires { ⌜ Rows stateLimit n k (now nexts)
-        × (length (now drawn) ≡ n)
-        × (n ≤ length (now area)) ⌝ }
-    ensures { λ _. ⌜ now (area .exit)
-        ≡ settledMarks n k (now (drawn .entry)) (now (nexts .entry)) ++ drop n (now (area .entry)) ⌝ }
-{
-    let truth = states_settled(drawn, nexts, n, k, 1);
-    let falsity = states_settled(drawn, nexts, n, k, 2);
-    write_settled(drawn, truth, falsity, area);
 }
 
 // Judges a body, and opens an accepted one: the shape of its table, and the settled marks in the first places of the
@@ -103,18 +108,16 @@ pub fn open(body: &[u8], marks: &mut [u8]) -> Opened
         }
         Judgement::Accepted => {}
     }
-    let states = basics::byte_at(body, 0);
-    let symbols = basics::byte_at(body, 1);
+    let t = Shape {
+        states: basics::byte_at(body, 0),
+        symbols: basics::byte_at(body, 1),
+        start: basics::byte_at(body, 2),
+    };
     settle(
         monitor::drawn_marks(body),
         monitor::next_states(body),
-        states,
-        symbols,
+        t,
         marks,
     );
-    Opened::Table(Shape {
-        states,
-        symbols,
-        start: basics::byte_at(body, 2),
-    })
+    Opened::Table(t)
 }

@@ -1,22 +1,17 @@
--- The two closures: states expanded until none is left, and a test widened until nothing is added. Both are stated over tests of states,
--- so that they say nothing of how a set is held.
+-- The two closures: states are expanded until none is left. They are stated over tests of states, so that they say nothing of how a set is held.
 use mathlib.Core.Path.{_≡_, refl, sym, ap, _∙_, subst}
 use mathlib.Core.Bool.{Bool, true, false, not, _&&_, _||_}
 use mathlib.Core.List.{List, [], _∷_, _++_}
 use mathlib.Core.Logic.{⊎-elim}
-use Prim.Native.Nat.{ℕ, zero, suc, _+_, _-_, _<_}
-use native.Mathlib.Nat.{add-zero, add-suc, add-sub-of-le}
-use native.Mathlib.Omega.{arith}
+use Prim.Native.Nat.{ℕ, _<_}
 use lib.Dec.{eqb, ltb}
 use borrow.Author.Tests.{eqb-true, eq-eqb, lt-ltb, ltb-true}
-use Rattle.theory.specs.Below.{any, every}
-use Rattle.theory.specs.Automaton.{Automaton, Closed, Trace, run, Reaches, leads, inevitableWithin, inevitable, reachedFrom}
-use Rattle.theory.proofs.Below.{clash, is-true, both-ways, or-cases, or-left, or-right, and-left, and-right, and-both, any-at, any-find, every-at, every-all}
-use Rattle.theory.proofs.Reach.{Hits, hits-here, hits-step, run-in, run-append, trace-append, leads-sound, leads-complete, reached-sound, reached-complete}
+use Rattle.theory.specs.Below.{any}
+use Rattle.theory.specs.Automaton.{Automaton, Closed, Trace, run, Reaches, leads, reachedFrom}
+use Rattle.theory.proofs.Below.{clash, is-true, both-ways, or-cases, or-left, or-right, and-left, and-right, and-both, any-at, any-find}
+use Rattle.theory.proofs.Reach.{Hits, hits-here, hits-step, run-append, trace-append, leads-sound, leads-complete, reached-sound, reached-complete}
 use Rattle.state_set.specs.Member.{setAt}
-use Rattle.theory.proofs.Inevitable.{inevitable-here, inevitable-step, inevitable-enough}
-use Rattle.reach.specs.Closure.{leadsTo, leadsInto, into, spread, Least}
-use Rattle.reach.specs.Predecessors.{Preceding, Joined}
+use Rattle.reach.specs.Closure.{leadsTo, Preceding, Joined}
 use Rattle.reach.proofs.Predecessors.{preceding-last}
 
 -- ---- expanding: `done` are the states q below n for which what q adds has been added
@@ -102,74 +97,7 @@ module _ (g : Automaton) where
           let z = g .next p a in
           along z w (c .next-in p a h (v .0)) (x .full p z h t (any-at (g .symbols) (leadsTo g p z) a (v .0) (eq-eqb z z refl))) (v .1)
 
--- ---- widening
-
-module _ (all : Bool) (g : Automaton) where
-  -- what enters a test enters every wider one
-  enters-wider : (f h : ℕ → Bool) → ((p : ℕ) → f p ≡ true → h p ≡ true) → (q : ℕ) → into all g f q ≡ true → into all g h q ≡ true
-  enters-wider f h w q = go all
-    where
-      go : (b : Bool) → into b g f q ≡ true → into b g h q ≡ true
-      go true e = every-all (g .symbols) (leadsInto g h q) (λ a l. w (g .next q a) (every-at (g .symbols) (leadsInto g f q) e a l))
-      go false e = (let b = any-find (g .symbols) (leadsInto g f q) e in any-at (g .symbols) (leadsInto g h q) (b .0) (b .1) (w (g .next q (b .0)) (b .2)))
-
-  module _ (f : ℕ → Bool) where
-    grows : (i p : ℕ) → spread all g f i p ≡ true → spread all g f (suc i) p ≡ true
-    unfolding spread
-    grows i p t = or-left (spread all g f i p) (eqb p i && into all g (spread all g f i) i) t
-
-    grows-by : (i j p : ℕ) → spread all g f i p ≡ true → spread all g f (i + j) p ≡ true
-    grows-by i zero p t = rw (add-zero i) t
-    grows-by i (suc j) p t = rw (add-suc i j) (grows (i + j) p (grows-by i j p t))
-
-    pub spread-keeps : (i p : ℕ) → f p ≡ true → spread all g f i p ≡ true
-    unfolding spread
-    spread-keeps zero p t = t
-    spread-keeps (suc i) p t = grows i p (spread-keeps i p t)
-
-    -- a wider test that every state entering it passes takes in what widening adds
-    spread-least : (h : ℕ → Bool) → ((p : ℕ) → f p ≡ true → h p ≡ true) → (i : ℕ) → ((q : ℕ) → q < i → into all g h q ≡ true → h q ≡ true)
-        → (p : ℕ) → spread all g f i p ≡ true → h p ≡ true
-    unfolding spread
-    spread-least h w zero full p t = w p t
-    spread-least h w (suc i) full p t =
-        let below = spread-least h w i (λ q l. full q (omega (arith, l))) in
-        let new = into all g (spread all g f i) i in
-        ⊎-elim (below p)
-        (λ n. subst (λ (x : ℕ). h x ≡ true) (sym (eqb-true p i (and-left (eqb p i) new n)))
-        (full i (omega arith) (enters-wider (spread all g f i) h below i (and-right (eqb p i) new n))))
-        (or-cases (spread all g f i p) (eqb p i && new) t)
-
-    -- where widening by n states adds nothing, the test passes every state that enters it
-    spread-full : (n : ℕ) → ((p : ℕ) → p < n → spread all g f n p ≡ f p) → (q : ℕ) → q < n → into all g f q ≡ true → f q ≡ true
-    unfolding spread
-    spread-full n full q l t =
-        let new = into all g (spread all g f q) q in
-        sym (full q l)
-        ∙ subst (λ (i : ℕ). spread all g f i q ≡ true) (add-sub-of-le l) (grows-by (suc q) (n - suc q) q
-        (or-right (spread all g f q q) (eqb q q && new)
-        (and-both (eqb q q) new (eq-eqb q q refl) (enters-wider f (spread all g f q) (spread-keeps q) q t))))
-
--- what is known of a test that grew from f by widening: all of `Least` but that it is full
-pub record Widening (all : Bool) (g : Automaton) (f wide : ℕ → Bool) : Type 0 where
-  pub keeps : (q : ℕ) → f q ≡ true → wide q ≡ true
-  pub least : (h : ℕ → Bool) → ((q : ℕ) → f q ≡ true → h q ≡ true) → ((q : ℕ) → q < g .states → into all g h q ≡ true → h q ≡ true)
-      → (q : ℕ) → wide q ≡ true → h q ≡ true
-
-pub widening-first : (all : Bool) (g : Automaton) (f : ℕ → Bool) → Widening all g f f
-widening-first all g f = record { keeps = λ q t. t; least = λ h w full q t. w q t }
-
-module _ {all : Bool} {g : Automaton} {f wide : ℕ → Bool} (w : Widening all g f wide) where
-  pub widening-turn : (wider : ℕ → Bool) → ((p : ℕ) → wider p ≡ spread all g wide (g .states) p) → Widening all g f wider
-  widening-turn wider e = record {
-    keeps = λ q t. e q ∙ spread-keeps all g wide (g .states) q (w .keeps q t);
-    least = λ h f⊆h full q t. spread-least all g wide h (w .least h f⊆h full) (g .states) full q (sym (e q) ∙ t);
-  }
-
-  pub widening-last : ((p : ℕ) → p < g .states → spread all g wide (g .states) p ≡ wide p) → Least all g f wide
-  widening-last full = record { holds = w .keeps; full = spread-full all g wide (g .states) full; least = w .least }
-
--- ---- what is joined over predecessors leads to the test; the least test is what `inevitable` says
+-- ---- what is joined over predecessors leads to the test
 
 module _ {g : Automaton} (c : Closed g) (f : ℕ → Bool) where
   -- f, or at a state the test of it
@@ -220,22 +148,3 @@ module _ {g : Automaton} (c : Closed g) (f : ℕ → Bool) where
 
       back : (p : ℕ) → p < g .states → Hits g f p → wide p ≡ true
       back p l h = along p (h .word) l (h .trace) (h .passes)
-
-  pub least-inevitable : {wide : ℕ → Bool} → Least true g f wide → (q : ℕ) → wide q ≡ (f q || (ltb q (g .states) && inevitable g f q))
-  unfolding inevitableWithin
-  least-inevitable {wide} w q =
-      both-ways (w .least (or-at (inevitable g f)) (or-here (inevitable g f)) enter q) (or-either (inevitable g f) wide (w .holds) (back (g .states)) q)
-    where
-      enter : (p : ℕ) → p < g .states → into true g (or-at (inevitable g f)) p ≡ true → or-at (inevitable g f) p ≡ true
-      enter p l t =
-          or-there (inevitable g f) p l (inevitable-enough g f c (suc (g .states)) p l (inevitable-step g f (g .states) p
-          (λ a i. or-either (inevitable g f) (inevitable g f) (inevitable-here g f (g .states)) (λ q l t. t) (g .next p a)
-          (every-at (g .symbols) (leadsInto g (or-at (inevitable g f)) p) t a i))))
-
-      back : (r p : ℕ) → p < g .states → inevitableWithin g f r p ≡ true → wide p ≡ true
-      back zero p l e = w .holds p e
-      back (suc r) p l e =
-          ⊎-elim (w .holds p)
-          (λ h. w .full p l (every-all (g .symbols) (leadsInto g wide p) (λ a i. back r (g .next p a) (c .next-in p a l i)
-          (every-at (g .symbols) (λ x. inevitableWithin g f r (g .next p x)) h a i))))
-          (or-cases (f p) (every (g .symbols) (λ a. inevitableWithin g f r (g .next p a))) e)

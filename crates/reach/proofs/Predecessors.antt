@@ -16,7 +16,7 @@ use Rattle.theory.proofs.Below.{lt-or-le, same-or-not, any-more}
 use Rattle.state_set.specs.Member.{setAt, Put}
 use Rattle.state_set.proofs.Words.{set-none}
 use Rattle.reach.specs.Closure.{leadsTo}
-use Rattle.reach.specs.Predecessors.{Preceding}
+use Rattle.reach.specs.Closure.{Preceding}
 
 -- nothing is entered in arrays as they are filled
 pub preceding-none : {g : Automaton} (size : ℕ) → g .states * 2 ≤ size → Preceding g 0 0 (replicate size 0)

@@ -1,4 +1,4 @@
--- One turn of each closure, in terms of what the calls in it promise.
+-- One turn of a closure, the expansion of the lowest state that is left, in terms of what the calls in it promise.
 use mathlib.Core.Path.{_≡_, refl, sym, ap, _∙_}
 use mathlib.Core.Bool.{Bool, true, false, not, _&&_, _||_}
 use Prim.Native.Nat.{ℕ, _-_, _≤_, _<_, zero-le}
@@ -7,14 +7,10 @@ use native.Mathlib.Omega.{arith}
 use lib.Dec.{eqb, ltb}
 use borrow.Author.Tests.{eq-eqb, not-true}
 use Rattle.theory.specs.Below.{count, first}
-use Rattle.theory.specs.Automaton.{Automaton}
-use Rattle.theory.proofs.Below.{or-left, or-right, and-left, and-right, count-le, count-mono, count-more, count-full, first-below, first-here}
-use Rattle.reach.specs.Closure.{spread, Least}
-use Rattle.reach.specs.Predecessors.{Joined}
-use Rattle.reach.proofs.Closure.{Expanding, expanding-first, expanding-turn, expanding-last, Widening, widening-turn, widening-last, spread-keeps}
+use Rattle.theory.proofs.Below.{or-left, or-right, and-left, and-right, count-le, count-more, first-below, first-here}
+use Rattle.reach.specs.Closure.{Joined}
+use Rattle.reach.proofs.Closure.{Expanding, expanding-first, expanding-turn, expanding-last}
 use Rattle.reach.proofs.Steps.{with-in}
-
--- ---- expanding the lowest state q that is left
 
 pub expand-first : {n : ℕ} {adds : ℕ → ℕ → Bool} (limit s : ℕ) (none seen done : ℕ → Bool) → s < limit → ((p : ℕ) → none p ≡ false)
     → ((p : ℕ) → seen p ≡ (none p || (eqb p s && ltb s limit)))
@@ -48,20 +44,3 @@ module _ {n : ℕ} {adds : ℕ → ℕ → Bool} {f seen done : ℕ → Bool} (x
 
       pub expand-turn : (out seen′ : ℕ → Bool) → ((p : ℕ) → out p ≡ adds q p) → ((p : ℕ) → seen′ p ≡ (seen p || out p)) → Expanding n adds f seen′ done′
       expand-turn out seen′ o e = expanding-turn seen′ done′ q x some is-seen one-more (λ p. e p ∙ ap (λ (b : Bool). seen p || b) (o p))
-
--- ---- widening by all states
-
-module _ {all : Bool} {g : Automaton} {f wide : ℕ → Bool} (w : Widening all g f wide) (limit : ℕ) (small : g .states ≤ limit) (wider : ℕ → Bool)
-    (e : (p : ℕ) → wider p ≡ spread all g wide (g .states) p) where
-  keeps : (p : ℕ) → wide p ≡ true → wider p ≡ true
-  keeps p t = e p ∙ spread-keeps all g wide (g .states) p t
-
-  pub widen-turn : Widening all g f wider
-  widen-turn = widening-turn w wider e
-
-  pub widen-less : {a b : ℕ} → a ≡ count limit wider → b ≡ count limit wide → (a ≡ b → ⊥) → limit - count limit wider < limit - count limit wide
-  widen-less i j ne = omega (arith, i, j, ne, count-mono limit wide wider (λ p _ t. keeps p t), count-le limit wider)
-
-  pub widen-last : {a b : ℕ} → a ≡ count limit wider → b ≡ count limit wide → a ≡ b → Least all g f wide
-  widen-last i j same =
-      widening-last w (λ p l. sym (e p) ∙ count-full limit wide wider (λ p _ t. keeps p t) (sym i ∙ same ∙ j) p (lt-of-lt-of-le l small))

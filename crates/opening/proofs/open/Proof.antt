@@ -12,21 +12,24 @@ returns c =
 
 settle-requires : tie.Need-settle-requires
 settle-requires c κs =
-    let s = c .before .before .before .before .before .before .before .before .before .before in
-    settling stateLimit (s .args .body .now) (c .before .before .before .before .before .before .before .judge .ensures)
-    (c .before .before .before .before .before .enum-told .given .1) (c .before .before .before .before .byte-at .ensures .0)
-    (c .before .before .before .byte-at2 .ensures .0) (c .before .before .drawn-marks .ensures) (c .before .next-states .ensures) (s .args .marks .now) (s .pre)
+    let at = c .before .before .before .before .before in
+    let s = at .before .before .before .before .before .before in
+    settling stateLimit (s .args .body .now) (at .before .before .before .judge .ensures) (at .before .enum-told .given .1) (at .byte-at .ensures .0)
+    (c .before .before .before .before .byte-at2 .ensures .0) (c .before .before .before .byte-at3 .ensures .0)
+    (c .before .before .drawn-marks .ensures) (c .before .next-states .ensures) (s .args .marks .now) (s .pre)
 
 returns-2 : tie.Need-returns-2
 returns-2 c =
-    let at = c .before .before .before .before .before in
-    let b = at .before .before .before .before .before .before .before .before .before .args .body .now in
-    opened-table stateLimit b (at .before .before .before .before .before .before .judge .ensures) (at .before .before .before .before .enum-told .given .1)
-    (at .before .before .before .byte-at .ensures .0) (at .before .before .byte-at2 .ensures .0) (at .before .drawn-marks .ensures) (at .next-states .ensures) _
-    (c .byte-at3 .ensures .0) (c .before .before .before .settle .ensures)
+    let at = c .before .before .before .before .before .before .before .before in
+    let s = at .before .before .before .before .before .before in
+    opened-table stateLimit (s .args .body .now) (at .before .before .before .judge .ensures) (at .before .enum-told .given .1) (at .byte-at .ensures .0)
+    (c .before .before .before .before .before .before .before .byte-at2 .ensures .0)
+    (c .before .before .before .before .before .before .byte-at3 .ensures .0)
+    (c .before .before .before .before .before .drawn-marks .ensures) (c .before .before .before .before .next-states .ensures) _
+    (c .before .before .settle .ensures)
 
 pub open-spec : {M : Type 1} → statement M
 open-spec =
     tie.close (tie.spec
     (λ c κs. search needs) (λ c. search needs) returns (λ c. search needs) (λ c κs. search needs) (λ c κs. search needs)
-    (λ c κs. search needs) (λ c κs. search needs) settle-requires (λ c κs. search needs) (λ c. search needs) returns-2)
+    (λ c κs. search needs) (λ c κs. search needs) (λ c κs. search needs) settle-requires (λ c. search needs) returns-2)

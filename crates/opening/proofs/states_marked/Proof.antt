@@ -8,7 +8,7 @@ use borrow.Author.Needs.{needs}
 use borrow.Author.Tests.{eq-eqb, ne-eqb}
 use Rattle.theory.specs.Monitor.{stateLimit}
 use Rattle.state_set.specs.Member.{member, Exactly}
-use Rattle.opening.specs.Sets.{hasMark}
+use Rattle.opening.specs.Marks.{hasMark}
 use Rattle.opening.proofs.Marks.{marked-none, marked-more, marked-same}
 use Rattle.opening.proofs.states_marked.Statement.{statement}
 use Rattle.opening.proofs.states_marked.Tie as tie

@@ -5,7 +5,7 @@ use native.Mathlib.Omega.{arith}
 use lib.ListN.{length}
 use borrow.Author.Needs.{needs}
 use Rattle.monitor.specs.Format.{automatonOf}
-use Rattle.reach.specs.Predecessors.{Preceding}
+use Rattle.reach.specs.Closure.{Preceding}
 use Rattle.reach.proofs.Predecessors.{preceding-more}
 use Rattle.reach.proofs.enter_predecessor.Statement.{statement}
 use Rattle.reach.proofs.enter_predecessor.Tie as tie

@@ -5,7 +5,7 @@ use native.Mathlib.Omega.{arith}
 use lib.ListN.{length}
 use borrow.Author.Needs.{needs}
 use Rattle.monitor.specs.Format.{automatonOf}
-use Rattle.reach.specs.Predecessors.{Preceding}
+use Rattle.reach.specs.Closure.{Preceding}
 use Rattle.reach.proofs.Predecessors.{preceding-row}
 use Rattle.reach.proofs.enter_predecessors.Statement.{statement}
 use Rattle.reach.proofs.enter_predecessors.Tie as tie
