@@ -1,17 +1,17 @@
 -- Classes, monitorability and the number of states reached, read off sets of states, are those of the table.
 use mathlib.Core.Path.{_≡_, refl, sym, ap, ap₂, _∙_}
-use mathlib.Core.Bool.{Bool, true, false, cond, not, _&&_, and-false, and-assoc}
+use mathlib.Core.Bool.{Bool, true, false, cond, not, _&&_, _||_, and-false, and-assoc}
 use mathlib.Core.List.{List, [], _∷_}
 use Prim.Native.Nat.{ℕ, zero, suc, _≤_, _<_}
 use native.Mathlib.Omega.{arith}
 use lib.Dec.{eqb}
 use lib.ListN.{length}
 use borrow.Author.Tests.{eq-eqb, lt-ltb, le-ltb}
-use Rattle.theory.specs.Below.{count}
+use Rattle.theory.specs.Below.{any, count}
 use Rattle.theory.specs.Automaton.{leads, reachedFrom}
 use Rattle.theory.specs.Answer.{answered}
 use Rattle.theory.specs.Monitor.{Monitor, WellFormed, marked, classFrom, class, weak, reached, uglyReached, monitorability, statesReached}
-use Rattle.theory.proofs.Below.{any-same, any-short, count-same, count-short, count-any}
+use Rattle.theory.proofs.Below.{clash, not-clash, is-true, and-right, any-find, any-same, any-short, count-le, count-same, count-more, count-short, count-any}
 use Rattle.theory.proofs.Reach.{hits-here, leads-complete}
 use Rattle.theory.proofs.Values.{filled, filled-same}
 use Rattle.state_set.specs.declared.StateSet.{StateSet}
@@ -50,6 +50,34 @@ module _ {limit n k s : ℕ} {vs ts : List ℕ} (table : Table limit n k s vs ts
 
   pub area-is : (area : List ℕ) → filled (classBy vs t f) area (length vs) ≡ filled (class (tableOf n k s vs ts)) area n
   area-is area = filled-same (classBy vs t f) (class (tableOf n k s vs ts)) area (table .marks-length) class-by-is
+
+  -- where true or false can be reached from as many states as there are, none is ugly
+  pub all-open : (u : StateSet) → ((q : ℕ) → member u q ≡ (member t q || member f q)) → {a w c : ℕ} → a ≡ count limit (member u) → a ≡ n
+      → w ≡ weak c → c ≡ classBy vs t f s → w ≡ monitorability (tableOf n k s vs ts)
+  unfolding monitorability
+  all-open u is {a} e full h g = rw (none) (h ∙ ap weak (g ∙ class-by-is s (table .well-formed .start-in)))
+    where
+      m : Monitor
+      m = tableOf n k s vs ts
+
+      within : count n (member u) ≡ n
+      within = sym (count-short n limit (member u) (table .rows .states-most) (λ q l _. is q ∙ rw (exactly-out et q l, exactly-out ef q l))) ∙ sym e ∙ full
+
+      every-state : (q : ℕ) → q < n → member u q ≡ true
+      every-state q l = is-true (λ z. (let more = count-more n (member u) (λ _. true) (λ p _ _. refl) q l z refl in
+          let most = count-le n (λ _. true) in omega (arith, more, most, within)))
+
+      none : any n (uglyReached m) ≡ false
+      none = not-clash (λ z. (let b = any-find n (uglyReached m) z in
+          let q = b .0 in
+          let ugly = sym (ugly-class (table .well-formed) q (b .1)) ∙ and-right (reached m q) (eqb (class m q) 5) (b .2) in
+          neither (leads (automatonOf n k ts) (hasMark vs 1) q) (leads (automatonOf n k ts) (hasMark vs 2) q) ugly
+          (rw (← exactly-in et q (b .1), ← exactly-in ef q (b .1)) (sym (is q) ∙ every-state q (b .1)))))
+        where
+          neither : (x y : Bool) → (not x && not y) ≡ true → (x || y) ≡ true → ⊥
+          neither true y h z = clash h refl
+          neither false true h z = clash h refl
+          neither false false h z = clash z refl
 
   module _ {r : StateSet} (er : Exactly n (reachedFrom (automatonOf n k ts) s) r) where
     reached-is : count limit (member r) ≡ statesReached (tableOf n k s vs ts)

@@ -145,12 +145,18 @@ pub fn write_all_classes(marks: &[u8], nexts: &[u8], t: Shape, area: &mut [u8])
     write_classes(marks, outlook_of(marks, nexts, t.states, t.symbols), area);
 }
 
-// The monitorability of a table, for callers that want nothing else.
+// The monitorability of a table, for callers that want nothing else. Which states are reached matters only where some
+// state is ugly.
 pub fn monitorability_of(marks: &[u8], nexts: &[u8], t: Shape) -> usize
     requires { ⌜ TableIn t marks nexts ⌝ }
     ensures { λ r. ⌜ r ≡ monitorability (monitorIn t (marks .entry) (nexts .entry)) ⌝ }
 {
     let outlook = outlook_of(marks, nexts, t.states, t.symbols);
+    let truth = outlook.truth;
+    let falsity = outlook.falsity;
+    if truth.union(falsity).count() == t.states {
+        return weak_of(class_by(marks, outlook, t.start));
+    }
     let reached = reach::reachable(nexts, t.states, t.symbols, t.start);
     monitorability_by(marks, outlook, reached, t.start)
 }
