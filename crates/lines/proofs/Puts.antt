@@ -6,6 +6,7 @@ use native.Mathlib.Nat.{add-zero}
 use native.Mathlib.Numerals.{add-one}
 use native.Mathlib.Omega.{arith}
 use lib.ListN.{length, take, set, getD, length-set, length-append}
+use borrow.Author.Tests.{lt-ltb}
 use lib.Seq.{take-suc, take-suc-set, take-length, take-all}
 use Rattle.theory.specs.Faults.{kinds}
 use Rattle.immunity.specs.declared.Column.{Column}
@@ -54,6 +55,17 @@ put-ends {bytes} {before} {after} {at} {i} p h = (let e : i ≡ length bytes = o
   holds = p .holds ∙ ap (λ (l : List ℕ). take at before ++ l) (ap (λ (j : ℕ). take j bytes) e ∙ take-length bytes);
   same = p .same;
 })
+
+-- a number below ten is put as its digit
+pub digit-put : (n at : ℕ) (before : List ℕ) → n < 10 → at < length before → Put (decimal n) before at (set before at (48 + n)) (at + 1) × (at + 1 ≤ at + 20)
+digit-put n at before l room = (
+  rw (lt-ltb n 10 l) (record {
+    ends = refl;
+    holds = ap (λ (i : ℕ). take i (set before at (48 + n))) (add-one at) ∙ take-suc-set before at (48 + n) room;
+    same = length-set before at (48 + n);
+  }),
+  omega arith,
+)
 
 -- the digits of a number are put
 module _ (n k : ℕ) (out : List ℕ) (f : Fewest 10 1 n k) (e : take k out ≡ digits 10 k n) (h : n < 18446744073709551616) where

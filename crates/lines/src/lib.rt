@@ -40,6 +40,10 @@ fn put_number(n: usize, buffer: &mut [u8], at: usize) -> usize
     ensures { λ r. ⌜ Put (decimal n) (now (buffer .entry)) at (now (buffer .exit)) r
         × (r ≤ at + 20) ⌝ }
 {
+    if n < 10 {
+        buffer[at] = 48 + n as u8;
+        return at + 1;
+    }
     let mut digits = [0u8; 20];
     let count = io::decimal(n as u64, &mut digits);
     put(&digits[..count], buffer, at)

@@ -15,8 +15,7 @@ use Rattle.theory.specs.Monitor.{stateLimit}
 use Rattle.theory.proofs.Below.{lt-or-le, same-or-not, any-more}
 use Rattle.state_set.specs.Member.{setAt, Put}
 use Rattle.state_set.proofs.Words.{set-none}
-use Rattle.reach.specs.Closure.{leadsTo}
-use Rattle.reach.specs.Closure.{Preceding}
+use Rattle.reach.specs.Closure.{leadsTo, Preceding}
 
 -- nothing is entered in arrays as they are filled
 pub preceding-none : {g : Automaton} (size : ℕ) → g .states * 2 ≤ size → Preceding g 0 0 (replicate size 0)
@@ -64,7 +63,9 @@ preceding-more {g} {p} {a} {y} {sets} {after} ly lp ey P S T = record {
     all q x some = (ltb x p && any (g .symbols) (leadsTo g x q)) || (eqb x p && some)
 
     here : (x : ℕ) → setAt after y x ≡ all y x (any a (leadsTo g x y) || leadsTo g x y a)
-    here x = S .here x ∙ T x ∙ rw (P .at y x ly, lt-ltb p stateLimit lp) (go (ltb x p && any (g .symbols) (leadsTo g x y)) (any a (leadsTo g x y)) (eqb x p) refl)
+    here x =
+        S .here x ∙ T x
+        ∙ rw (P .at y x ly, lt-ltb p stateLimit lp) (go (ltb x p && any (g .symbols) (leadsTo g x y)) (any a (leadsTo g x y)) (eqb x p) refl)
       where
         go : (b s e : Bool) → eqb x p ≡ e → ((b || (e && s)) || (e && true)) ≡ (b || (e && (s || leadsTo g x y a)))
         go b s true h = rw (eqb-true x p h, eq-eqb y (g .next p a) ey) (new b s)
