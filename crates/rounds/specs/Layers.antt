@@ -2,15 +2,13 @@
 use mathlib.Core.Path.{_≡_}
 use mathlib.Core.Bool.{Bool, true, _&&_}
 use mathlib.Core.List.{List}
-use mathlib.Core.Logic.{_⊎_}
 use Prim.Native.Nat.{ℕ, _+_, _*_, _≤_, _<_}
-use lib.Dec.{eqb, leb, ltb}
+use lib.Dec.{eqb, ltb}
 use lib.ListN.{length}
 use Rattle.theory.specs.Automaton.{Automaton}
 use Rattle.theory.specs.Monitor.{stateLimit, symbolLimit}
-use Rattle.theory.specs.Pairs.{told}
 use Rattle.state_set.specs.Member.{setAt}
-use Rattle.square.specs.Square.{never, HasRows, entry}
+use Rattle.square.specs.Square.{HasRows, entry, Stage}
 use Rattle.rows.specs.Sets.{Kept}
 
 -- there is room for n states: in the square, in the arrays of sets that a round goes on with, and in that of the
@@ -23,11 +21,6 @@ pub record Room (n k : ℕ) (square alike next active predecessors : List ℕ) :
   pub active-sets : 4 ≤ length active
   pub predecessors-sets : n * symbolLimit * 2 ≤ length predecessors
   pub predecessors-in : (x a p : ℕ) → x < n → a < k → setAt predecessors (x * symbolLimit + a) p ≡ true → p < n
-
--- after r rounds: e is how many symbols tell p and q apart where at most r do, and never where they do not
-pub record Stage (g : Automaton) (ends : ℕ → ℕ → Bool) (r p q e : ℕ) : Type 0 where
-  pub agrees : (s : ℕ) → s ≤ r → told g ends s p q ≡ leb e s
-  pub known : (e ≤ r) ⊎ (e ≡ never)
 
 -- before the round after r: every pair has had r rounds, and the fresh ones are at r
 pub record Layer (g : Automaton) (ends : ℕ → ℕ → Bool) (r : ℕ) (square alike fresh : List ℕ) (rows : ℕ → Bool) : Type 0

@@ -12,25 +12,17 @@ use Rattle.theory.specs.Below.{any}
 use Rattle.theory.specs.Automaton.{Automaton, Closed}
 use Rattle.theory.specs.Monitor.{stateLimit}
 use Rattle.theory.specs.Pairs.{told}
-use Rattle.theory.proofs.Below.{clash, not-clash, both-ways, lt-or-le, or-cases, or-left, or-right, and-left, and-right, and-both, any-at, any-find}
+use Rattle.theory.proofs.Below.{clash, not-clash, both-ways, lt-or-le, or-cases, or-left, or-right, and-left, and-right, and-both, any-find}
 use Rattle.theory.proofs.Pairs.{onward}
 use Rattle.state_set.specs.Member.{isPart, setAt, Put, PutPart}
 use Rattle.square.specs.Square.{never, entry}
+use Rattle.square.proofs.Stage.{told-by}
 use Rattle.rows.specs.Sets.{Preceding, leading, Into, Entered, Kept, Retired}
 use Rattle.rows.specs.Midway.{Ground, Front, Midway, GoesAt, rowDone}
 
 -- ---- pairs told apart within a number of symbols
 
 module _ (g : Automaton) (ends : ℕ → ℕ → Bool) where
-  pub told-step : (r p q : ℕ) → told g ends (suc r) p q ≡ (told g ends r p q || any (g .symbols) (onward g ends r p q))
-  unfolding told
-  told-step r p q = refl
-
-  pub told-by : (r p q a : ℕ) → a < g .symbols → told g ends r (g .next p a) (g .next q a) ≡ true → told g ends (suc r) p q ≡ true
-  told-by r p q a la t =
-      told-step r p q
-      ∙ or-right (told g ends r p q) (any (g .symbols) (onward g ends r p q)) (any-at (g .symbols) (onward g ends r p q) a la t)
-
   -- no state is told apart from itself
   told-self : Closed g → ((p : ℕ) → p < g .states → ends p p ≡ false) → (r p : ℕ) → p < g .states → told g ends r p p ≡ false
   unfolding told

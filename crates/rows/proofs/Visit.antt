@@ -1,11 +1,12 @@
 -- The states of a set taken lowest first, each once: over tests of states, and over the states of a word.
 use mathlib.Core.Path.{_≡_, refl, sym, _∙_}
-use mathlib.Core.Bool.{Bool, true, false, not, _&&_}
+use mathlib.Core.Bool.{Bool, true, false, not, _&&_, _||_}
 use mathlib.Core.Logic.{⊎-elim}
-use Prim.Native.Nat.{ℕ, _≤_, _<_, zero-le}
+use Prim.Native.Nat.{ℕ, _+_, _≤_, _<_, zero-le}
+use native.Mathlib.Nat.{le-refl}
 use native.Mathlib.Omega.{arith}
 use lib.Dec.{eqb, ltb}
-use borrow.Author.Tests.{eq-eqb, eqb-true, eqb-false, lt-ltb}
+use borrow.Author.Tests.{eq-eqb, ne-eqb, eqb-true, eqb-false, lt-ltb, le-ltb}
 use Rattle.theory.specs.Below.{first, count}
 use Rattle.state_set.specs.Member.{inPart, lowestIn}
 use Rattle.state_set.proofs.Words.{part-none}
@@ -24,12 +25,13 @@ module _ (limit : ℕ) where
   pub lowest-none : (f : ℕ → Bool) {n y : ℕ} → y ≡ first f 0 limit → n ≤ y → (q : ℕ) → q < n → f q ≡ false
   lowest-none f e l q lq = first-below f 0 limit q zero-le (omega (arith, e, l, lq))
 
-  -- taken out, it leaves fewer
+  -- some states taken out, one of which was there, leave fewer
+  pub fewer : (f h out : ℕ → Bool) {y : ℕ} → y < limit → f y ≡ true → out y ≡ true → ((q : ℕ) → h q ≡ (f q && not (out q))) → count limit h < count limit f
+  fewer f h out {y} l t o is = count-more limit h f (λ q lq. stays f h out is q) y l (is y ∙ rw (t, o)) t
+
   pub lowest-less : (f h : ℕ → Bool) {y : ℕ} → y ≡ first f 0 limit → y < limit → ((q : ℕ) → h q ≡ (f q && not (eqb q y && ltb y limit)))
       → count limit h < count limit f
-  lowest-less f h {y} e l is =
-      count-more limit h f (λ q lq. stays f h (λ x. eqb x y && ltb y limit) is q) y l
-      (is y ∙ rw (eq-eqb y y refl, lt-ltb y limit l, lowest-in f e l)) (lowest-in f e l)
+  lowest-less f h {y} e l is = fewer f h (λ q. eqb q y && ltb y limit) l (lowest-in f e l) (rw (eq-eqb y y refl, lt-ltb y limit l)) is
 
   module _ (f : ℕ → Bool) {b : Bool} (e : b ≡ eqb (first f 0 limit) limit) where
     -- the test for an empty set
@@ -53,3 +55,24 @@ word-none w e q = rw e (part-none w q)
 pub word-rest : (w word rest y : ℕ) → y ≡ lowestIn w word → ((q : ℕ) → inPart w rest q ≡ (inPart w word q && not (eqb q (lowestIn w word))))
     → (q : ℕ) → inPart w rest q ≡ (inPart w word q && not (eqb q y))
 word-rest w word rest y e is q = rw e (is q)
+
+-- ---- the states below a number
+
+pub record Below (q : ℕ) (f : ℕ → Bool) : Type 0 where
+  pub at : (x : ℕ) → f x ≡ ltb x q
+
+pub below-none : {f : ℕ → Bool} → ((x : ℕ) → f x ≡ false) → Below 0 f
+below-none none = record { at = λ x. none x ∙ rw (le-ltb x 0 zero-le) }
+
+pub below-more : (limit : ℕ) {q : ℕ} {f h : ℕ → Bool} → Below q f → q < limit → ((x : ℕ) → h x ≡ (f x || (eqb x q && ltb q limit))) → Below (q + 1) h
+below-more limit {q} B l is = record {
+  at = λ x.
+      is x ∙ rw (B .at x, lt-ltb q limit l)
+      (⊎-elim
+      (λ (b : x < q). rw (lt-ltb x q b, lt-ltb x (q + 1) (omega arith)))
+      (λ b. ⊎-elim
+      (λ (c : q < x). rw (le-ltb x q b, le-ltb x (q + 1) (omega arith), ne-eqb x q (λ e. omega arith)))
+      (λ c. (let e : x ≡ q = omega arith in rw e (rw (le-ltb q q (le-refl q), lt-ltb q (q + 1) (omega arith), eq-eqb q q refl))))
+      (lt-or-le q x))
+      (lt-or-le x q));
+}

@@ -17,6 +17,22 @@ ghost use Rattle.square.specs.Square.{never, HasRows};
 ghost use Rattle.rows.specs.Sets.{Preceding, upTo, Into, Within, Entered, Retired};
 ghost use Rattle.rows.specs.Midway.{GoesAt, rowDone, setDone};
 
+// ---- sets of states
+
+// The states below n.
+pub fn all_below(n: usize) -> StateSet
+    requires { ⌜ n ≤ stateLimit ⌝ }
+    ensures { λ r. ⌜ ((q : ℕ) → member r q ≡ ltb q n) ⌝ }
+{
+    let mut set = StateSet::empty();
+    let mut q = 0;
+    while q < n {
+        set = set.with(q);
+        q += 1;
+    }
+    set
+}
+
 // ---- predecessors: a set for each state and symbol
 
 // Puts p among the predecessors of each of its successors.

@@ -1,3 +1,4 @@
 pub mod Filled
 pub mod Path
+pub mod Stage
 pub mod Walk

@@ -3,14 +3,15 @@
 use mathlib.Core.Path.{_≡_}
 use mathlib.Core.Bool.{Bool, cond, not, _&&_}
 use mathlib.Core.List.{List, [], _∷_}
+use mathlib.Core.Logic.{_⊎_}
 use Prim.Native.Nat.{ℕ, zero, suc, _+_, _*_, _≤_, _<_}
-use lib.Dec.{eqb}
+use lib.Dec.{eqb, leb}
 use lib.ListN.{length, getD}
 use Rattle.theory.specs.Below.{first}
 use Rattle.theory.specs.Automaton.{Automaton}
 use Rattle.theory.specs.Monitor.{stateLimit}
 use Rattle.theory.specs.Extent.{Extent, number, missing, Shortest}
-use Rattle.theory.specs.Pairs.{Tells}
+use Rattle.theory.specs.Pairs.{Tells, told}
 use Rattle.square.specs.declared.Test.{Test}
 use Rattle.square.specs.declared.Test.the-variants.{Differ, Misread}
 
@@ -54,6 +55,11 @@ pub record Noted (P : List ℕ → Type 0) (e : ℕ) : Type 0 where
 pub record Squared (g : Automaton) (ends : ℕ → ℕ → Bool) (square : List ℕ) : Type 0 where
   pub size : HasRows (g .states) square
   pub noted : (p q : ℕ) → p < g .states → q < g .states → Noted (Tells g ends p q) (entry square p q)
+
+-- after r rounds: e is how many symbols tell p and q apart where at most r do, and never where they do not
+pub record Stage (g : Automaton) (ends : ℕ → ℕ → Bool) (r p q e : ℕ) : Type 0 where
+  pub agrees : (s : ℕ) → s ≤ r → told g ends s p q ≡ leb e s
+  pub known : (e ≤ r) ⊎ (e ≡ never)
 
 -- what a test says of the output after the sent trace and the output after the received one
 abbrev pub passes : Test → ℕ → ℕ → Bool

@@ -5,9 +5,9 @@ use native.Mathlib.Omega.{arith}
 use borrow.Author.Needs.{needs}
 use Rattle.state_set.specs.Member.{member}
 use Rattle.theory.specs.Monitor.{stateLimit}
-use Rattle.pairs.proofs.Sets.{Below, below-none, below-more}
-use Rattle.pairs.proofs.all_below.Statement.{statement}
-use Rattle.pairs.proofs.all_below.Tie as tie
+use Rattle.rows.proofs.Visit.{Below, below-none, below-more}
+use Rattle.rows.proofs.all_below.Statement.{statement}
+use Rattle.rows.proofs.all_below.Tie as tie
 
 abbrev Inv-loop : tie.InvT-loop
 Inv-loop n set₀ q₀ set q = (q ≤ n) × Below q (member set)
