@@ -1,21 +1,17 @@
--- The cheapest fault step of a list, put together from those of its parts.
-use mathlib.Core.Path.{_≡_, refl, sym, ap, ap₂, _∙_, subst}
-use mathlib.Core.List.{List, [], _∷_, _++_}
-use mathlib.Core.Logic.{inl, ⊎-elim}
+-- The cheapest of some fault steps, put together from those of parts of them.
+use mathlib.Core.Path.{_≡_, sym, ap, ap₂, _∙_, subst}
+use mathlib.Core.List.{List}
+use mathlib.Core.Logic.{_⊎_, inl, inr, ⊎-elim}
 use Prim.Native.Nat.{ℕ, _+_, _≤_, _<_, min}
-use native.Mathlib.Nat.{le-refl, le-antisymm, le-of-eq, lt-of-lt-of-le, not-suc-le-zero, le-of-suc-le-suc, eq-or-lt-of-le}
-use native.Mathlib.Numerals.{add-one}
+use native.Mathlib.Nat.{le-refl, le-trans, le-antisymm, le-of-eq}
 use native.Mathlib.Omega.{arith}
-use lib.ListN.{length, getD, set, length-set}
-use lib.Seq.{getD-set-same, getD-set-other}
-use Rattle.theory.specs.Lists.{In, each}
+use lib.ListN.{length}
 use Rattle.theory.specs.Automaton.{Automaton, run}
-use Rattle.theory.specs.Monitor.{stateLimit}
 use Rattle.theory.specs.Faults.{FaultStep}
 use Rattle.theory.proofs.Below.{lt-or-le}
-use Rattle.theory.proofs.Lists.{in-left, in-right, in-either}
 use Rattle.square.specs.Square.{never, entry}
-use Rattle.faults.specs.Steps.{plus, costOf, Cheapest, Costs}
+use Rattle.faults.specs.Steps.{plus, costOf, Attained, Cheapest}
+use Rattle.faults.specs.Looks.{Upto}
 
 -- ---- the cost of a step
 
@@ -27,68 +23,90 @@ pub cost-is : (g : Automaton) (square : List ℕ) (p : ℕ) (s : FaultStep) {x y
     → x ≡ run g p (s .sent) → y ≡ run g p (s .received) → l ≡ length (s .sent) → e ≡ entry square x y → plus l e ≡ costOf g square p s
 cost-is g square p s sent received long held = ap₂ plus long (held ∙ ap₂ (entry square) sent received)
 
--- ---- the cheapest of no step, of one, and of two lists
+-- ---- the cheapest of some steps, as loops find it
+
+cost-most : (g : Automaton) (square : List ℕ) (p : ℕ) (s : FaultStep) → costOf g square p s ≤ never
+cost-most g square p s = plus-most (length (s .sent)) (entry square (run g p (s .sent)) (run g p (s .received)))
 
 module _ {g : Automaton} {square : List ℕ} {p : ℕ} where
-  pub cheapest-none : Cheapest g square p [] never
-  cheapest-none = record { most = le-refl never; least = λ s i. absurd i; attained = λ l. absurd (omega (arith, l)) }
+  pub cheapest-none : {These : FaultStep → Type 0} {bound : ℕ} → ((s : FaultStep) → These s → ⊥) → Cheapest g square p These bound never
+  cheapest-none none = record { most = le-refl never; least = λ s i. absurd (none s i); attained = λ l. absurd (omega (arith, l)) }
 
-  pub cheapest-one : {cost : ℕ} (s : FaultStep) → cost ≡ costOf g square p s → Cheapest g square p (s ∷ []) cost
-  cheapest-one s e = record {
-    most = omega (arith, e, plus-most (length (s .sent)) (entry square (run g p (s .sent)) (run g p (s .received))));
-    least = λ t i. ⊎-elim (λ (q : t ≡ s). le-of-eq (e ∙ ap (costOf g square p) (sym q))) (λ j. absurd j) i;
-    attained = λ l. (s, inl refl, sym e);
+  -- none is as cheap as the bound
+  pub cheapest-above : {These : FaultStep → Type 0} {bound : ℕ} → ((s : FaultStep) → These s → bound < costOf g square p s)
+      → Cheapest g square p These bound never
+  cheapest-above above = record { most = le-refl never; least = λ s i. inr (above s i); attained = λ l. absurd (omega (arith, l)) }
+
+  pub cheapest-one : {These : FaultStep → Type 0} {bound cost : ℕ} (t : FaultStep) → These t → ((s : FaultStep) → These s → s ≡ t)
+      → cost ≡ costOf g square p t
+      → Cheapest g square p These bound cost
+  cheapest-one t here only e = record {
+    most = rw e (cost-most g square p t);
+    least = λ s i. inl (le-of-eq (e ∙ ap (costOf g square p) (sym (only s i))));
+    attained = λ l. record { step = t; of = here; costs = sym e };
   }
 
-  cheapest-append : {xs ys : List FaultStep} {a b : ℕ} → Cheapest g square p xs a → Cheapest g square p ys b → Cheapest g square p (xs ++ ys) (min b a)
-  cheapest-append {xs} {ys} {a} {b} x y = record {
-    most = omega (arith, x .most);
-    least = λ s i. ⊎-elim (λ j. (let l = x .least s j in omega (arith, l))) (λ j. (let l = y .least s j in omega (arith, l))) (in-either s xs ys i);
-    attained = λ l. ⊎-elim (later l) (here l) (lt-or-le b a);
-  }
-    where
-      later : min b a < never → b < a → (s : FaultStep) × In s (xs ++ ys) × (costOf g square p s ≡ min b a)
-      later l h = (let m : b ≡ min b a = omega (arith, h) in let r = y .attained (omega (arith, l, h)) in (r .0, in-right (r .0) xs ys (r .1), r .2 ∙ m))
-
-      here : min b a < never → a ≤ b → (s : FaultStep) × In s (xs ++ ys) × (costOf g square p s ≡ min b a)
-      here l h = (let m : a ≡ min b a = omega (arith, h) in let r = x .attained (omega (arith, l, h)) in (r .0, in-left (r .0) xs ys (r .1), r .2 ∙ m))
-
--- ---- of the lists of 0, 1, .. n - 1 those before i, one after the other, as a loop goes through them
-
-pub record Least (g : Automaton) (square : List ℕ) (p : ℕ) (f : ℕ → List FaultStep) (n i cost : ℕ) : Type 0 where
-  pub upto : i ≤ n
-  pub cheapest : Cheapest g square p (each i f) cost
-
-module _ {g : Automaton} {square : List ℕ} {p : ℕ} {f : ℕ → List FaultStep} {n : ℕ} where
-  pub least-begins : Least g square p f n 0 never
-  unfolding each
-  least-begins = record { upto = omega arith; cheapest = cheapest-none }
-
-  pub least-goes-on : {i a b c : ℕ} → Least g square p f n i a → i < n → Cheapest g square p (f i) b → c ≡ min b a → Least g square p f n (i + 1) c
-  unfolding each
-  least-goes-on {i} x l y e = record { upto = omega arith; cheapest = rw (add-one i, e) (cheapest-append (x .cheapest) y) }
-
-  pub least-ends : {i c : ℕ} → Least g square p f n i c → n ≤ i → Cheapest g square p (each n f) c
-  least-ends {c = c} x l = subst (λ (j : ℕ). Cheapest g square p (each j f) c) (le-antisymm (x .upto) l) (x .cheapest)
-
--- ---- the costs of all states
-
-module _ {g : Automaton} {square : List ℕ} {steps : List FaultStep} where
-  pub costs-none : (v : List ℕ) → length v ≡ stateLimit → Costs g square steps 0 v
-  costs-none v e = record { size = e; each = λ p l. absurd (not-suc-le-zero l) }
-
-  pub costs-more : {p cost : ℕ} {v : List ℕ} → p < stateLimit → Costs g square steps p v → Cheapest g square p steps cost
-      → Costs g square steps (p + 1) (set v p cost)
-  costs-more {p} {cost} {v} h x y = record {
-    size = length-set v p cost ∙ x .size;
-    each = λ q l.
-        ⊎-elim
-        (λ (e : q ≡ p).
-        let here = getD-set-same v p cost 0 (omega (arith, h, x .size)) in
-        subst (λ (i : ℕ). Cheapest g square i steps (getD (set v p cost) i 0)) (sym e) (rw here y))
-        (λ (s : q < p). rw (getD-set-other v p q cost 0 (λ e. omega (arith, e, s))) (x .each q s))
-        (eq-or-lt-of-le (le-of-suc-le-suc (rw (add-one p) at l)));
+  -- no step costs more than never, so that the bound never says nothing
+  pub cheapest-within : {These : FaultStep → Type 0} {cost : ℕ} (bound : ℕ) → Cheapest g square p These never cost → Cheapest g square p These bound cost
+  cheapest-within bound x = record {
+    most = x .most;
+    least = λ s i. inl (⊎-elim (λ l. l) (λ l. absurd (omega (arith, l, cost-most g square p s))) (x .least s i));
+    attained = x .attained;
   }
 
-  pub costs-end : {p n : ℕ} {v : List ℕ} → Costs g square steps p v → n ≤ p → Costs g square steps n v
-  costs-end x h = record { size = x .size; each = λ q l. x .each q (lt-of-lt-of-le l h) }
+  pub cheapest-same : {These Those : FaultStep → Type 0} {bound cost : ℕ} → ((s : FaultStep) → Those s → These s) → ((s : FaultStep) → These s → Those s)
+      → Cheapest g square p These bound cost
+      → Cheapest g square p Those bound cost
+  cheapest-same to from x = record {
+    most = x .most;
+    least = λ s i. x .least s (to s i);
+    attained = λ l. (let r = x .attained l in record { step = r .step; of = from (r .step) (r .of); costs = r .costs });
+  }
+
+  -- some steps are as cheap as all
+  pub cheapest-enough : {Some All : FaultStep → Type 0} {cost : ℕ} → Cheapest g square p Some never cost
+      → ((s : FaultStep) → All s → (t : FaultStep) × Some t × (costOf g square p t ≤ costOf g square p s))
+      → ((s : FaultStep) → Some s → All s) → Cheapest g square p All never cost
+  cheapest-enough x as-cheap of = record {
+    most = x .most;
+    least = λ s i.
+        let t = as-cheap s i in
+        inl (⊎-elim (λ l. le-trans l (t .2)) (λ l. absurd (omega (arith, l, cost-most g square p (t .0)))) (x .least (t .0) (t .1)));
+    attained = λ l. (let r = x .attained l in record { step = r .step; of = of (r .step) (r .of); costs = r .costs });
+  }
+
+  -- ---- those of 0, 1, .. i - 1, and then those of i, within what is left of the bound
+
+  module _ {These : ℕ → FaultStep → Type 0} {bound : ℕ} where
+    pub upto-none : {i : ℕ} → ((j : ℕ) → j < i → (s : FaultStep) → These j s → ⊥) → Cheapest g square p (Upto These i) bound never
+    upto-none none = cheapest-none (λ s h. none (h .0) (h .1) s (h .2))
+
+    pub upto-goes-on : {i a b c : ℕ} → Cheapest g square p (Upto These i) bound a → Cheapest g square p (These i) (min bound a) b → c ≡ min b a
+        → Cheapest g square p (Upto These (i + 1)) bound c
+    upto-goes-on {i} {a} {b} {c} x y e = rw e (record {
+      most = omega (arith, x .most);
+      least = λ s h.
+          ⊎-elim
+          (λ (l : h .0 < i). ⊎-elim (λ m. inl (omega (arith, m))) (λ m. inr m) (x .least s (h .0, l, h .2)))
+          (λ (l : i ≤ h .0).
+          let z : h .0 ≡ i = omega (arith, l, h .1) in
+          ⊎-elim (λ m. inl (omega (arith, m))) (later s) (y .least s (subst (λ (j : ℕ). These j s) z (h .2))))
+          (lt-or-le (h .0) i);
+      attained = λ l. ⊎-elim (there l) (here l) (lt-or-le b a);
+    })
+      where
+        later : (s : FaultStep) → min bound a < costOf g square p s → (min b a ≤ costOf g square p s) ⊎ (bound < costOf g square p s)
+        later s l = ⊎-elim (λ m. inr m) (λ m. inl (omega (arith, l, m))) (lt-or-le bound (costOf g square p s))
+
+        there : min b a < never → b < a → Attained g square p (Upto These (i + 1)) (min b a)
+        there l h = (let m : b ≡ min b a = omega (arith, h) in let r = y .attained (omega (arith, l, h)) in
+            record { step = r .step; of = (i, omega arith, r .of); costs = r .costs ∙ m })
+
+        here : min b a < never → a ≤ b → Attained g square p (Upto These (i + 1)) (min b a)
+        here l h =
+            let m : a ≡ min b a = omega (arith, h) in
+            let r = x .attained (omega (arith, l, h)) in
+            record { step = r .step; of = (r .of .0, omega (arith, r .of .1), r .of .2); costs = r .costs ∙ m }
+
+    pub upto-ends : {i n c : ℕ} → Cheapest g square p (Upto These i) bound c → i ≤ n → n ≤ i → Cheapest g square p (Upto These n) bound c
+    upto-ends {c = c} x h l = subst (λ (j : ℕ). Cheapest g square p (Upto These j) bound c) (le-antisymm h l) x

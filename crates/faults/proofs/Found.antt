@@ -1,4 +1,4 @@
--- The search for the first fault step that costs what the cheapest does.
+-- The search for the first fault step with a cost.
 use mathlib.Core.Path.{_≡_, sym, ap, _∙_}
 use mathlib.Core.List.{List, _∷_}
 use mathlib.Core.Option.{none, some}
@@ -11,21 +11,21 @@ use Rattle.theory.specs.Faults.{FaultStep, steps}
 use Rattle.theory.proofs.Below.{clash}
 use Rattle.theory.proofs.Lists.{none-passes}
 use Rattle.theory.proofs.Faults.{steps-held}
-use Rattle.square.specs.Square.{never}
 use Rattle.faults.specs.declared.Cursor.{Cursor}
-use Rattle.faults.specs.Steps.{costOf, costing, Cheapest}
+use Rattle.faults.specs.Steps.{costOf, costing, Attained}
+use Rattle.faults.specs.Looks.{OfSet}
 use Rattle.faults.specs.Rest.{Placed, stepAt, rest}
 use Rattle.faults.proofs.Rest.{Seeking, seek, seek-finds, seek-on}
 
--- the cheapest cost, below never, is the cost of a step
-module _ {g : Automaton} {square : List ℕ} {p cost : ℕ} (set k : ℕ) (low : cost < never) (least : Cheapest g square p (steps set k) cost) where
+-- some step has the cost
+module _ {g : Automaton} {square : List ℕ} {p cost : ℕ} (set k : ℕ) (some-step : Attained g square p (OfSet set k) cost) where
   some-costs : find (costing g square p cost) (steps set k) ≡ none → ⊥
   some-costs e =
-      let r = least .attained low in
-      clash (eq-eqb (costOf g square p (r .0)) cost (r .2)) (none-passes (costing g square p cost) (steps set k) e (r .0) (r .1))
+      clash (eq-eqb (costOf g square p (some-step .step)) cost (some-step .costs))
+      (none-passes (costing g square p cost) (steps set k) e (some-step .step) (some-step .of))
 
   some-symbol : 0 < k
-  some-symbol = (let r = least .attained low in omega (arith, steps-held set k (r .0) (r .1) .first-in))
+  some-symbol = omega (arith, steps-held set k (some-step .step) (some-step .of) .first-in)
 
   pub cost-begins : (at : Cursor) → ((k : ℕ) → 0 < k → rest set k at ≡ steps set k) → ((k : ℕ) → 0 < k → Placed k at)
       → Seeking (costing g square p cost) set k at

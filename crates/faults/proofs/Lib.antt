@@ -4,3 +4,4 @@ pub mod Cheapest
 pub mod Found
 pub mod Numbered
 pub mod Rest
+pub mod Looks

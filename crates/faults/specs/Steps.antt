@@ -2,12 +2,11 @@
 use mathlib.Core.Path.{_≡_}
 use mathlib.Core.Bool.{Bool}
 use mathlib.Core.List.{List, [], _∷_}
+use mathlib.Core.Logic.{_⊎_}
 use Prim.Native.Nat.{ℕ, _+_, _≤_, _<_, min}
 use lib.Dec.{eqb}
-use lib.ListN.{length, getD, take}
-use Rattle.theory.specs.Lists.{In}
+use lib.ListN.{length, take}
 use Rattle.theory.specs.Automaton.{Automaton, run}
-use Rattle.theory.specs.Monitor.{stateLimit}
 use Rattle.theory.specs.Faults.{FaultStep}
 use Rattle.square.specs.Square.{never, entry}
 use Rattle.faults.specs.declared.Symbols.{Symbols}
@@ -50,13 +49,14 @@ costOf g square p s = plus (length (s .sent)) (entry square (run g p (s .sent)) 
 abbrev pub costing : Automaton → List ℕ → ℕ → ℕ → FaultStep → Bool
 costing g square p cost s = eqb (costOf g square p s) cost
 
--- a cost that no step undercuts and, where it is not never, some step has
-pub record Cheapest (g : Automaton) (square : List ℕ) (p : ℕ) (steps : List FaultStep) (cost : ℕ) : Type 0 where
-  pub most : cost ≤ never
-  pub least : (s : FaultStep) → In s steps → cost ≤ costOf g square p s
-  pub attained : cost < never → (s : FaultStep) × In s steps × (costOf g square p s ≡ cost)
+-- some of these fault steps costs this at p
+pub record Attained (g : Automaton) (square : List ℕ) (p : ℕ) (These : FaultStep → Type 0) (cost : ℕ) : Type 0 where
+  pub step : FaultStep
+  pub of : These step
+  pub costs : costOf g square p step ≡ cost
 
--- the costs of the states below `upto`
-pub record Costs (g : Automaton) (square : List ℕ) (steps : List FaultStep) (upto : ℕ) (costs : List ℕ) : Type 0 where
-  pub size : length costs ≡ stateLimit
-  pub each : (p : ℕ) → p < upto → Cheapest g square p steps (getD costs p 0)
+-- of these fault steps none costs less but above the bound, and, where the cost is not never, some step has it
+pub record Cheapest (g : Automaton) (square : List ℕ) (p : ℕ) (These : FaultStep → Type 0) (bound cost : ℕ) : Type 0 where
+  pub most : cost ≤ never
+  pub least : (s : FaultStep) → These s → (cost ≤ costOf g square p s) ⊎ (bound < costOf g square p s)
+  pub attained : cost < never → Attained g square p These cost

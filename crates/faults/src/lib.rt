@@ -1,6 +1,6 @@
 // Fault sets, fault steps, and the cheapest fault step at a state.
 use square::NEVER;
-use theory::STATE_LIMIT;
+use square::Test;
 ghost use mathlib.Core.Path.{_≡_};
 ghost use mathlib.Core.List.{_∷_};
 ghost use mathlib.Core.Option.{some};
@@ -11,12 +11,13 @@ ghost use lib.Bits.{bitOr};
 ghost use Rattle.theory.specs.Lists.{find};
 ghost use Rattle.theory.specs.Automaton.{run};
 ghost use Rattle.theory.specs.Monitor.{stateLimit, symbolLimit};
-ghost use Rattle.theory.specs.Faults.{kinds, allFaults, stepOf, seconds, holds, stepsOfKind, steps};
+ghost use Rattle.theory.specs.Faults.{kinds, allFaults, stepOf, seconds, holds, steps};
 ghost use Rattle.monitor.specs.Format.{Rows, graph};
 ghost use Rattle.square.specs.Square.{never, HasRows};
 ghost use Rattle.faults.specs.Kinds.{rankOf, bitOf};
-ghost use Rattle.faults.specs.Steps.{traceOf, stepFor, Inside, Ranged, costOf, costing, Cheapest, Costs};
-ghost use Rattle.faults.specs.Rest.{stepsFrom, stepsIfHeld, stepsOnward, Placed, stepAt, rest};
+ghost use Rattle.faults.specs.Steps.{traceOf, stepFor, Inside, Ranged, costOf, costing, Attained, Cheapest};
+ghost use Rattle.faults.specs.Looks.{OfFirst, OfKind, OfHeld, OfSet, firsts, secondFrom, Suited};
+ghost use Rattle.faults.specs.Rest.{stepsOnward, Placed, stepAt, rest};
 
 // A kind of fault.
 pub enum Kind {
@@ -319,7 +320,39 @@ fn cost_of(square: &[u16], nexts: &[u8], n: usize, k: usize, p: usize, fault: Fa
     basics::least_of(fault.sent.count + square::entry_at(square, x, y), NEVER)
 }
 
-// What the cheapest fault of a kind at p with the given first symbol costs.
+// How many first symbols of a kind are looked at for its cheapest fault. Where readings that differ are the test,
+// corruption of symbol 0 is enough: the least distance among the successors of a state is found from one of them.
+fn firsts_of(test: Test, kind: Kind, k: usize) -> usize
+    ensures { λ r. ⌜ r ≡ firsts test (rankOf kind) k ⌝ }
+{
+    match test {
+        Test::Differ => match kind {
+            Kind::Loss => k,
+            Kind::Corruption => basics::least_of(1, k),
+            Kind::Repeat => k,
+            Kind::Swap => k,
+        },
+        Test::Misread(v) => k,
+    }
+}
+
+// From which second symbol on. Where readings that differ are the test, a swap of falling symbols is that of the same
+// rising.
+fn second_from(test: Test, kind: Kind, first: usize) -> usize
+    ensures { λ r. ⌜ r ≡ secondFrom test (rankOf kind) first ⌝ }
+{
+    match test {
+        Test::Differ => match kind {
+            Kind::Loss => 0,
+            Kind::Corruption => 0,
+            Kind::Repeat => 0,
+            Kind::Swap => first,
+        },
+        Test::Misread(v) => 0,
+    }
+}
+
+// What the cheapest fault of a kind at p with the given first symbol costs, of the second symbols from `from` on.
 fn cost_from(
     square: &[u16],
     nexts: &[u8],
@@ -328,16 +361,19 @@ fn cost_from(
     p: usize,
     kind: Kind,
     first: usize,
+    from: usize,
 ) -> usize
     requires { ⌜ Rows stateLimit n k (now nexts) ⌝ }
     requires { ⌜ p < n ⌝ }
     requires { ⌜ first < k ⌝ }
+    requires { ⌜ from ≤ seconds (rankOf kind) k ⌝ }
     requires { ⌜ HasRows n (now square) ⌝ }
-    ensures { λ r. ⌜ Cheapest (graph n k (nexts .entry)) (now (square .entry)) p (stepsFrom k (rankOf kind) first) r ⌝ }
+    ensures { λ r. ⌜ Cheapest (graph n k (nexts .entry)) (now (square .entry)) p
+        (OfFirst (rankOf kind) k first from) never r ⌝ }
 {
     let count = seconds_of(kind, k);
     let mut least = NEVER;
-    let mut second = 0;
+    let mut second = from;
     while second < count {
         let fault = fault_of(kind, first, second);
         least = basics::least_of(cost_of(square, nexts, n, k, p, fault), least);
@@ -347,89 +383,90 @@ fn cost_from(
 }
 
 // What the cheapest fault of a kind at p costs.
-fn cost_of_kind(square: &[u16], nexts: &[u8], n: usize, k: usize, p: usize, kind: Kind) -> usize
+fn cost_of_kind(
+    square: &[u16],
+    nexts: &[u8],
+    n: usize,
+    k: usize,
+    test: Test,
+    p: usize,
+    kind: Kind,
+) -> usize
     requires { ⌜ Rows stateLimit n k (now nexts) ⌝ }
     requires { ⌜ p < n ⌝ }
     requires { ⌜ HasRows n (now square) ⌝ }
-    ensures { λ r. ⌜ Cheapest (graph n k (nexts .entry)) (now (square .entry)) p (stepsOfKind k (rankOf kind)) r ⌝ }
+    requires { ⌜ Suited test n (now square) ⌝ }
+    ensures { λ r. ⌜ Cheapest (graph n k (nexts .entry)) (now (square .entry)) p (OfKind (rankOf kind) k) never r ⌝ }
 {
+    let firsts = firsts_of(test, kind, k);
     let mut least = NEVER;
     let mut first = 0;
-    while first < k {
-        least = basics::least_of(cost_from(square, nexts, n, k, p, kind, first), least);
+    while first < firsts {
+        let from = second_from(test, kind, first);
+        least = basics::least_of(cost_from(square, nexts, n, k, p, kind, first, from), least);
         first += 1;
     }
     least
 }
 
-// The same where the set has the kind, else NEVER.
-fn cost_if_held(
+// The same where the set has the kind and its faults cover no more symbols than the bound, else NEVER.
+fn cost_if_near(
     square: &[u16],
     nexts: &[u8],
     n: usize,
     k: usize,
     set: FaultSet,
+    test: Test,
     p: usize,
     rank: usize,
+    bound: usize,
 ) -> usize
     requires { ⌜ Rows stateLimit n k (now nexts) ⌝ }
     requires { ⌜ p < n ⌝ }
     requires { ⌜ rank < kinds ⌝ }
     requires { ⌜ HasRows n (now square) ⌝ }
-    ensures { λ r. ⌜ Cheapest (graph n k (nexts .entry)) (now (square .entry)) p (stepsIfHeld (set .bits) k rank) r ⌝ }
+    requires { ⌜ Suited test n (now square) ⌝ }
+    ensures { λ r. ⌜ Cheapest (graph n k (nexts .entry)) (now (square .entry)) p (OfHeld (set .bits) k rank) bound r ⌝ }
 {
     if set.has(rank) {
-        return cost_of_kind(square, nexts, n, k, p, kind_at(rank));
+        let kind = kind_at(rank);
+        let fault = fault_of(kind, 0, 0);
+        if fault.sent.count <= bound {
+            return cost_of_kind(square, nexts, n, k, test, p, kind);
+        }
     }
     NEVER
 }
 
-// What the cheapest fault of the set costs at p.
-fn cost_at(square: &[u16], nexts: &[u8], n: usize, k: usize, set: FaultSet, p: usize) -> usize
-    requires { ⌜ Rows stateLimit n k (now nexts) ⌝ }
-    requires { ⌜ p < n ⌝ }
-    requires { ⌜ HasRows n (now square) ⌝ }
-    ensures { λ r. ⌜ Cheapest (graph n k (nexts .entry)) (now (square .entry)) p (steps (set .bits) k) r ⌝ }
-{
-    let mut least = NEVER;
-    let mut rank = 0;
-    while rank < KINDS {
-        least = basics::least_of(cost_if_held(square, nexts, n, k, set, p, rank), least);
-        rank += 1;
-    }
-    least
-}
-
-// No cost is known yet.
-pub fn no_costs() -> [usize; STATE_LIMIT]
-    ensures { λ r. ⌜ length r ≡ stateLimit ⌝ }
-{
-    [NEVER; STATE_LIMIT]
-}
-
-// Enters what the cheapest fault of the set costs at every state.
-pub fn enter_costs(
-    costs: &mut [usize; STATE_LIMIT],
+// What the cheapest fault of the set costs at p. Where that is above the bound, any number above it or NEVER.
+pub fn cost_within(
     square: &[u16],
     nexts: &[u8],
     n: usize,
     k: usize,
     set: FaultSet,
-)
-    requires { ⌜ length (now costs) ≡ stateLimit ⌝ }
+    test: Test,
+    p: usize,
+    bound: usize,
+) -> usize
     requires { ⌜ Rows stateLimit n k (now nexts) ⌝ }
+    requires { ⌜ p < n ⌝ }
     requires { ⌜ HasRows n (now square) ⌝ }
-    ensures { λ _. ⌜ Costs (graph n k (nexts .entry)) (now (square .entry)) (steps (set .bits) k) n
-        (now (costs .exit)) ⌝ }
+    requires { ⌜ Suited test n (now square) ⌝ }
+    ensures { λ r. ⌜ Cheapest (graph n k (nexts .entry)) (now (square .entry)) p (OfSet (set .bits) k) bound r ⌝ }
 {
-    let mut p = 0;
-    while p < n {
-        costs[p] = cost_at(square, nexts, n, k, set, p);
-        p += 1;
+    let mut least = NEVER;
+    let mut rank = 0;
+    while rank < KINDS {
+        let most = basics::least_of(bound, least);
+        let cost = cost_if_near(square, nexts, n, k, set, test, p, rank, most);
+        least = basics::least_of(cost, least);
+        rank += 1;
     }
+    least
 }
 
-// The first fault of the set, in the written order, that costs what the cheapest at p does.
+// The first fault of the set, in the written order, that costs this at p.
 pub fn fault_with(
     square: &[u16],
     nexts: &[u8],
@@ -441,8 +478,7 @@ pub fn fault_with(
 ) -> Fault
     requires { ⌜ Rows stateLimit n k (now nexts) ⌝ }
     requires { ⌜ p < n ⌝ }
-    requires { ⌜ cost < never ⌝ }
-    requires { ⌜ Cheapest (graph n k nexts) (now square) p (steps (set .bits) k) cost ⌝ }
+    requires { ⌜ Attained (graph n k nexts) (now square) p (OfSet (set .bits) k) cost ⌝ }
     requires { ⌜ HasRows n (now square) ⌝ }
     ensures first { λ r. ⌜ find (costing (graph n k (nexts .entry)) (now (square .entry)) p cost) (steps (set .bits) k)
         ≡ some (stepFor r) ⌝ }

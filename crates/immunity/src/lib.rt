@@ -23,6 +23,7 @@ ghost use Rattle.basics.specs.Refusals.{refusal};
 ghost use Rattle.monitor.specs.Opening.{monitorIn, TableIn};
 ghost use Rattle.square.specs.declared.Test.the-variants.{Differ};
 ghost use Rattle.square.specs.Square.{Blank, Squared, passing};
+ghost use Rattle.layers.specs.Layers.{Explored};
 ghost use Rattle.witness.specs.Figures.{outcome};
 ghost use Rattle.witness.specs.Search.{automatonIn};
 ghost use Rattle.immunity.specs.Findings.{faultAnswer, faultTrace, finding};
@@ -96,6 +97,9 @@ fn scratch_few() -> [u8; FEW * FEW + FEW + 2]
 fn column_of(
     marks: &[u8],
     square: &[u16],
+    order: &[u8; STATE_LIMIT],
+    depths: &[u8; STATE_LIMIT],
+    count: usize,
     nexts: &[u8],
     t: Shape,
     rank: usize,
@@ -103,13 +107,26 @@ fn column_of(
 ) -> Column
     requires { ⌜ TableIn t marks nexts
         × Squared (automatonIn t (now nexts)) (passing Differ (now marks)) (now square)
+        × Explored (automatonIn t (now nexts)) (t .start) count (now order) (now depths)
         × (rank < kinds)
         × (horizon (t .states) ≤ length (now area)) ⌝ }
     ensures { λ r. ⌜ finding (r .finding)
         ≡ answered (columnFigures rank (monitorIn t (marks .entry) (nexts .entry))) ⌝ }
 {
     let set = FaultSet::empty().with(faults::kind_at(rank));
-    let found = witness::find_first(marks, marks, square, nexts, t, set, area);
+    let found = witness::find_first(
+        marks,
+        marks,
+        square,
+        order,
+        depths,
+        count,
+        nexts,
+        t,
+        set,
+        Test::Differ,
+        area,
+    );
     Column {
         finding: finding_of(found),
     }
@@ -119,20 +136,24 @@ fn column_of(
 fn columns_of(
     marks: &[u8],
     square: &[u16],
+    order: &[u8; STATE_LIMIT],
+    depths: &[u8; STATE_LIMIT],
+    count: usize,
     nexts: &[u8],
     t: Shape,
     area: &mut [u8],
 ) -> [Column; KINDS]
     requires { ⌜ TableIn t marks nexts
         × Squared (automatonIn t (now nexts)) (passing Differ (now marks)) (now square)
+        × Explored (automatonIn t (now nexts)) (t .start) count (now order) (now depths)
         × (horizon (t .states) ≤ length (now area)) ⌝ }
     ensures { λ r. ⌜ found r ≡ cardAsking [] (monitorIn t (marks .entry) (nexts .entry)) .columns ⌝ }
 {
-    let first = column_of(marks, square, nexts, t, 0, area);
+    let first = column_of(marks, square, order, depths, count, nexts, t, 0, area);
     let mut columns = [first; KINDS];
     let mut rank = 1;
     while rank < KINDS {
-        let column = column_of(marks, square, nexts, t, rank, area);
+        let column = column_of(marks, square, order, depths, count, nexts, t, rank, area);
         columns[rank] = column;
         rank += 1;
     }
@@ -153,7 +174,10 @@ fn columns_in(
     ensures { λ r. ⌜ found r ≡ cardAsking [] (monitorIn t (marks .entry) (nexts .entry)) .columns ⌝ }
 {
     pairs::enter_distances(square, nexts, t.states, t.symbols, marks, Test::Differ);
-    columns_of(marks, square, nexts, t, area)
+    let mut order = layers::blank();
+    let mut depths = layers::blank();
+    let count = layers::explore(&mut order, &mut depths, nexts, t.states, t.symbols, t.start);
+    columns_of(marks, square, &order, &depths, count, nexts, t, area)
 }
 
 // The same: the square and the area are as large as the table needs, few states or all.

@@ -1,3 +1,3 @@
-pub mod Least
-pub mod Lowering
 pub mod Walk
+pub mod Costed
+pub mod Totalled

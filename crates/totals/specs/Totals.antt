@@ -1,66 +1,65 @@
--- The total of a state: the fewest symbols sent from it by a harmful series, the fault still to come.
+-- The least total of a fault set: the fewest symbols of a harmful series from the start, by the depth of the state where
+-- its fault is and what the cheapest fault costs there; and the symbols before the fault.
 use mathlib.Core.Path.{_≡_}
-use mathlib.Core.Bool.{Bool, false, cond}
+use mathlib.Core.Bool.{cond}
 use mathlib.Core.List.{List, [], _∷_}
 use mathlib.Core.Logic.{_⊎_}
-use Prim.Native.Nat.{ℕ, zero, suc, _+_, _≤_, _<_, min}
-use lib.Dec.{eqb, ltb}
-use lib.ListN.{length, getD, set}
+use Prim.Native.Nat.{ℕ, zero, suc, _+_, _≤_, _<_}
+use lib.Dec.{eqb}
+use lib.ListN.{length, getD}
 use Rattle.theory.specs.Below.{first}
-use Rattle.theory.specs.Automaton.{Automaton, Trace, run}
+use Rattle.theory.specs.Automaton.{Automaton}
 use Rattle.theory.specs.Monitor.{stateLimit}
+use Rattle.theory.specs.Faults.{FaultStep}
 use Rattle.square.specs.Square.{never}
+use Rattle.faults.specs.Steps.{costOf, Attained}
+use Rattle.layers.specs.Layers.{far, depthAt}
 
--- the least of f 0, .. f (n - 1), or never
-unfoldable pub least : ℕ → (ℕ → ℕ) → ℕ
-least zero f = never
-least (suc i) f = min (f i) (least i f)
-
--- the sum of the first n totals
-unfoldable pub sum : ℕ → List ℕ → ℕ
-sum zero v = 0
-sum (suc i) v = sum i v + getD v i 0
-
--- the least total of the states after p
-abbrev pub leastAfter : Automaton → List ℕ → ℕ → ℕ
-leastAfter g v p = least (g .symbols) (λ a. getD v (g .next p a) 0)
-
--- the total of p is more than one above the least of the states after p
-abbrev pub lowers : Automaton → List ℕ → ℕ → Bool
-lowers g v p = ltb (leastAfter g v p + 1) (getD v p 0)
-
--- the totals with that of p lowered to one above the least of the states after p, where it is more
-abbrev pub lowered : Automaton → List ℕ → ℕ → List ℕ
-lowered g v p = cond (lowers g v p) (set v p (leastAfter g v p + 1)) v
-
--- no total of a state is above never
-pub record Bounded (n : ℕ) (v : List ℕ) : Type 0 where
+-- an array of which no place is used
+pub record Unused (v : List ℕ) : Type 0 where
   pub size : length v ≡ stateLimit
-  pub most : (p : ℕ) → p < n → getD v p 0 ≤ never
+  pub filled : (q : ℕ) → q < stateLimit → getD v q 0 ≡ never
 
--- every total below never is the length of some trace plus the cost of the state it leads to, and no total is above the
--- state's own cost
-pub record Attained (g : Automaton) (costs v : List ℕ) : Type 0 where
-  pub above : (p : ℕ) → p < g .states → getD v p 0 ≤ getD costs p 0
-  pub reached : (p : ℕ) → p < g .states → getD v p 0 < never
-      → (w : List ℕ) × Trace g w × (getD v p 0 ≡ length w + getD costs (run g p w) 0)
+-- ---- the least total
 
--- totals lowered in the states below p, `changed` of them; each lowering takes at least one from the sum
-pub record Lowering (g : Automaton) (p changed : ℕ) (before after : List ℕ) : Type 0 where
-  pub bounded : Bounded (g .states) after
-  pub falls : sum (g .states) after + changed ≤ sum (g .states) before
-  pub quiet : changed ≡ 0 → (after ≡ before) × ((q : ℕ) → q < p → lowers g before q ≡ false)
-  pub attained : (costs : List ℕ) → Attained g costs before → Attained g costs after
+-- the cost entered at the i-th state of the order
+abbrev pub costAt : List ℕ → List ℕ → ℕ → ℕ
+costAt order costs i = getD costs (getD order i 0) 0
 
--- totals that no state's successors lower
-pub record Relaxed (g : Automaton) (before after : List ℕ) : Type 0 where
-  pub bounded : Bounded (g .states) after
-  pub quiet : (q : ℕ) → q < g .states → lowers g after q ≡ false
-  pub attained : (costs : List ℕ) → Attained g costs before → Attained g costs after
+-- the first states of the order are not as deep as the total: a fault there can make it
+abbrev pub Shallow : List ℕ → List ℕ → ℕ → ℕ → Type 0
+Shallow order depths visited total = (i : ℕ) → i < visited → depthAt order depths i < total
 
--- ---- the symbols before the fault
+-- some state is so deep that one of these fault steps makes the total there
+pub record Makes (g : Automaton) (square : List ℕ) (These : FaultStep → Type 0) (depths : List ℕ) (total : ℕ) : Type 0 where
+  pub state : ℕ
+  pub inside : state < g .states
+  pub reached : getD depths state 0 < far
+  pub step : FaultStep
+  pub of : These step
+  pub sum : getD depths state 0 + costOf g square state step ≡ total
 
--- the lowest symbol from p to a state with the total l, or the number of symbols
+-- what these fault steps cost at the first states of the order, and the least total they make there
+pub record Costed (g : Automaton) (square : List ℕ) (These : FaultStep → Type 0) (order depths : List ℕ)
+    (visited : ℕ) (costs : List ℕ) (total : ℕ) : Type 0 where
+  pub size : length costs ≡ stateLimit
+  pub most : total ≤ never
+  pub shallow : Shallow order depths visited total
+  pub above : (i : ℕ) → i < visited → total ≤ depthAt order depths i + costAt order costs i
+  pub least : (i : ℕ) → i < visited → (s : FaultStep) → These s
+      → (costAt order costs i ≤ costOf g square (getD order i 0) s)
+      ⊎ (total < depthAt order depths i + costOf g square (getD order i 0) s)
+  pub attained : (q : ℕ) → q < g .states → getD costs q 0 < never → Attained g square q These (getD costs q 0)
+  pub makes : total < never → Makes g square These depths total
+
+-- all states of the order that are not as deep as the total are among the first
+pub record Enough (order depths : List ℕ) (count visited total : ℕ) : Type 0 where
+  pub within : visited ≤ count
+  pub all : (i : ℕ) → i < count → depthAt order depths i < total → i < visited
+
+-- ---- the symbols before the fault; v has what is left of the total at the states on the way
+
+-- the lowest symbol from p to a state with l left, or the number of symbols
 abbrev pub onward : Automaton → List ℕ → ℕ → ℕ → ℕ
 onward g v l p = first (λ a. eqb (getD v (g .next p a) 0) l) 0 (g .symbols)
 
@@ -71,11 +70,23 @@ approach g v costs (suc l) p =
     let a = onward g v l p in
     cond (eqb (getD costs p 0) (suc l)) [] (a ∷ approach g v costs l (g .next p a))
 
--- the same from a state with its whole total still to be sent
+-- the same from a state with all that is left at it still to be sent
 abbrev pub wayToFault : Automaton → List ℕ → List ℕ → ℕ → List ℕ
 wayToFault g v costs start = approach g v costs (getD v start 0) start
 
--- at every state the total is the cost, or some symbol leads to a state with one less
+-- l is the cost at p, or some symbol leads on to a state with one less left
+abbrev pub LeadsOn : Automaton → List ℕ → List ℕ → ℕ → ℕ → Type 0
+LeadsOn g v costs l p = (getD costs p 0 ≡ l) ⊎ ((m : ℕ) × (l ≡ suc m) × (onward g v m p < g .symbols))
+
+-- it is so at every state on the way
 pub record Leading (g : Automaton) (v costs : List ℕ) : Type 0 where
-  pub leads : (p l : ℕ) → p < g .states → getD v p 0 ≡ l → l < never
-      → (getD costs p 0 ≡ l) ⊎ ((m : ℕ) × (l ≡ suc m) × (onward g v m p < g .symbols))
+  pub leads : (p l : ℕ) → p < g .states → getD v p 0 ≡ l → l < never → LeadsOn g v costs l p
+
+-- of the states of the order from `from` up to `upto` those are on the way that lead on; what is left there and the depth
+-- are the total
+pub record OnTheWay (g : Automaton) (order depths costs : List ℕ) (total from upto : ℕ) (v : List ℕ) : Type 0 where
+  pub size : length v ≡ stateLimit
+  pub left : (q : ℕ) → q < g .states → getD v q 0 < never → getD v q 0 + getD depths q 0 ≡ total
+  pub leading : Leading g v costs
+  pub complete : (i l : ℕ) → from ≤ i → i < upto → l + depthAt order depths i ≡ total
+      → LeadsOn g v costs l (getD order i 0) → getD v (getD order i 0) 0 ≡ l

@@ -1,17 +1,24 @@
 // From what a fault costs at each state to the fewest symbols sent from each state, the fault still to come.
+use faults::FaultSet;
 use square::NEVER;
+use square::Test;
 use theory::STATE_LIMIT;
 ghost use mathlib.Core.Path.{_≡_};
-ghost use mathlib.Core.Bool.{cond};
+ghost use mathlib.Core.Bool.{true, false};
 ghost use Prim.Native.Nat.{_+_, _≤_, _<_};
 ghost use lib.ListN.{length, getD};
 ghost use lib.Seq.{sets};
 ghost use Rattle.theory.specs.Automaton.{run};
 ghost use Rattle.theory.specs.Monitor.{stateLimit};
 ghost use Rattle.monitor.specs.Format.{Rows, graph};
-ghost use Rattle.square.specs.Square.{never};
-ghost use Rattle.totals.specs.Totals.{leastAfter, lowers, lowered, Bounded, Lowering, Relaxed};
-ghost use Rattle.totals.specs.Totals.{onward, wayToFault, Leading};
+ghost use Rattle.square.specs.Square.{never, HasRows};
+ghost use Rattle.faults.specs.Looks.{OfSet, Suited};
+ghost use Rattle.layers.specs.Layers.{Queue};
+ghost use Rattle.totals.specs.Totals.{Unused, Shallow, Costed, Enough};
+ghost use Rattle.totals.specs.Totals.{onward, wayToFault, LeadsOn, Leading, OnTheWay};
+
+// NEVER, as the arrays hold it.
+const UNKNOWN: u16 = 65535;
 
 // Where the symbols before a fault lead, and how many they are.
 pub struct Approach {
@@ -19,65 +26,68 @@ pub struct Approach {
     pub count: usize,
 }
 
-// The least total of the states after p.
-fn least_after(totals: &[usize; STATE_LIMIT], nexts: &[u8], n: usize, k: usize, p: usize) -> usize
-    requires { ⌜ Rows stateLimit n k (now nexts)
-        × (p < n) ⌝ }
-    ensures { λ r. ⌜ (r ≡ leastAfter (graph n k (nexts .entry)) (now (totals .entry)) p)
-        × (r ≤ never) ⌝ }
-{
-    let mut least = NEVER;
-    let mut a = 0;
-    while a < k {
-        let x = monitor::successor(nexts, n, k, p, a);
-        least = basics::least_of(totals[x], least);
-        a += 1;
-    }
-    least
+// The least total of a fault set, and how many states of the order were looked at.
+pub struct Least {
+    pub total: usize,
+    pub visited: usize,
 }
 
-// Lowers the total of p to one above the least of the states after it. Returns 1 where that is lower, else 0.
-fn lower(totals: &mut [usize; STATE_LIMIT], nexts: &[u8], n: usize, k: usize, p: usize) -> usize
-    requires { ⌜ Rows stateLimit n k (now nexts)
-        × (p < n) ⌝ }
-    ensures changed { λ r. ⌜ r ≡ cond (lowers (graph n k (nexts .entry)) (now (totals .entry)) p) 1 0 ⌝ }
-    ensures totals { λ _. ⌜ now (totals .exit) ≡ lowered (graph n k (nexts .entry)) (now (totals .entry)) p ⌝ }
+// A number of an array as any number.
+fn wide(x: u16) -> usize
+    ensures { λ r. ⌜ r ≡ x ⌝ }
 {
-    let next = least_after(totals, nexts, n, k, p) + 1;
-    if next < totals[p] {
-        totals[p] = next;
-        return 1;
-    }
-    0
+    x as usize
 }
 
-// One pass over all totals. Returns how many were lowered.
-fn lower_all(totals: &mut [usize; STATE_LIMIT], nexts: &[u8], n: usize, k: usize) -> usize
-    requires { ⌜ Rows stateLimit n k (now nexts)
-        × Bounded n (now totals) ⌝ }
-    ensures { λ r. ⌜ Lowering (graph n k (nexts .entry)) n r (now (totals .entry)) (now (totals .exit)) ⌝ }
+// An array for costs or totals of states, none of which is known yet.
+pub fn unused() -> [u16; STATE_LIMIT]
+    ensures { λ r. ⌜ Unused r ⌝ }
 {
-    let mut changed = 0;
-    let mut p = 0;
-    while p < n {
-        changed += lower(totals, nexts, n, k, p);
-        p += 1;
-    }
-    changed
+    [UNKNOWN; STATE_LIMIT]
 }
 
-// Passes over the totals, which begin as the costs of the states, until a pass lowers none.
-pub fn relax(totals: &mut [usize; STATE_LIMIT], nexts: &[u8], n: usize, k: usize)
+// Enters what the cheapest fault of the set costs at the states of the order, as long as they are not too deep for a
+// total as low as the least so far.
+pub fn enter_costs(
+    costs: &mut [u16; STATE_LIMIT],
+    order: &[u8; STATE_LIMIT],
+    depths: &[u8; STATE_LIMIT],
+    count: usize,
+    square: &[u16],
+    nexts: &[u8],
+    n: usize,
+    k: usize,
+    set: FaultSet,
+    test: Test,
+) -> Least
     requires { ⌜ Rows stateLimit n k (now nexts)
-        × Bounded n (now totals) ⌝ }
-    ensures { λ _. ⌜ Relaxed (graph n k (nexts .entry)) (now (totals .entry)) (now (totals .exit)) ⌝ }
+        × Queue n count (now order) (now depths)
+        × HasRows n (now square)
+        × Suited test n (now square)
+        × Unused (now costs) ⌝ }
+    ensures costed { λ r. ⌜ Costed (graph n k (nexts .entry)) (now (square .entry)) (OfSet (set .bits) k)
+        (now (order .entry)) (now (depths .entry)) (r .visited) (now (costs .exit)) (r .total) ⌝ }
+    ensures enough { λ r. ⌜ Enough (now (order .entry)) (now (depths .entry)) count (r .visited) (r .total) ⌝ }
 {
-    while lower_all(totals, nexts, n, k) > 0 {}
+    let mut total = NEVER;
+    let mut i = 0;
+    while i < count {
+        let p = order[i] as usize;
+        let depth = depths[p] as usize;
+        if total <= depth {
+            return Least { total, visited: i };
+        }
+        let cost = faults::cost_within(square, nexts, n, k, set, test, p, total - depth);
+        costs[p] = cost as u16;
+        total = basics::least_of(depth + cost, total);
+        i += 1;
+    }
+    Least { total, visited: i }
 }
 
 // The lowest symbol from p to a state with this total, or the number of symbols.
 fn onward_by(
-    totals: &[usize; STATE_LIMIT],
+    totals: &[u16; STATE_LIMIT],
     nexts: &[u8],
     n: usize,
     k: usize,
@@ -91,7 +101,7 @@ fn onward_by(
     let mut a = 0;
     while a < k {
         let x = monitor::successor(nexts, n, k, p, a);
-        if totals[x] == total {
+        if wide(totals[x]) == total {
             return a;
         }
         a += 1;
@@ -99,10 +109,67 @@ fn onward_by(
     a
 }
 
+// Whether a fault at p costs what is left, or some symbol leads on to a state with one less left.
+fn leads_on(
+    totals: &[u16; STATE_LIMIT],
+    costs: &[u16; STATE_LIMIT],
+    nexts: &[u8],
+    n: usize,
+    k: usize,
+    p: usize,
+    left: usize,
+) -> bool
+    requires { ⌜ Rows stateLimit n k (now nexts)
+        × (p < n)
+        × (1 ≤ left) ⌝ }
+    ensures yes { λ r. ⌜ (r ≡ true → LeadsOn (graph n k (nexts .entry)) (now (totals .entry)) (now (costs .entry)) left p) ⌝ }
+    ensures no { λ r. ⌜ (r ≡ false → LeadsOn (graph n k (nexts .entry)) (now (totals .entry)) (now (costs .entry)) left p → ⊥) ⌝ }
+{
+    if wide(costs[p]) == left {
+        return true;
+    }
+    if onward_by(totals, nexts, n, k, left - 1, p) < k {
+        return true;
+    }
+    false
+}
+
+// Enters what is left of the least total at each state from which the layers lead on to a fault that makes it.
+pub fn enter_totals(
+    totals: &mut [u16; STATE_LIMIT],
+    costs: &[u16; STATE_LIMIT],
+    order: &[u8; STATE_LIMIT],
+    depths: &[u8; STATE_LIMIT],
+    nexts: &[u8],
+    n: usize,
+    k: usize,
+    count: usize,
+    least: Least,
+)
+    requires { ⌜ Rows stateLimit n k (now nexts)
+        × Queue n count (now order) (now depths)
+        × (least .visited ≤ count)
+        × Shallow (now order) (now depths) (least .visited) (least .total)
+        × (least .total < never)
+        × Unused (now totals) ⌝ }
+    ensures { λ _. ⌜ OnTheWay (graph n k (nexts .entry)) (now (order .entry)) (now (depths .entry)) (now (costs .entry))
+        (least .total) 0 (least .visited) (now (totals .exit)) ⌝ }
+{
+    let mut i = least.visited;
+    while i > 0 {
+        i -= 1;
+        let p = order[i] as usize;
+        let left = least.total - depths[p] as usize;
+        if leads_on(totals, costs, nexts, n, k, p, left) {
+            totals[p] = left as u16;
+        }
+    }
+}
+
 // Writes the symbols before the fault into the area, and returns where they lead.
 pub fn write_before(
-    totals: &[usize; STATE_LIMIT],
-    costs: &[usize; STATE_LIMIT],
+    totals: &[u16; STATE_LIMIT],
+    costs: &[u16; STATE_LIMIT],
     nexts: &[u8],
     n: usize,
     k: usize,
@@ -128,8 +195,8 @@ pub fn write_before(
 {
     let mut p = start;
     let mut i = 0;
-    let mut left = totals[start];
-    while costs[p] != left {
+    let mut left = wide(totals[start]);
+    while wide(costs[p]) != left {
         left -= 1;
         let a = onward_by(totals, nexts, n, k, left, p);
         area[i] = a as u8;

@@ -9,7 +9,7 @@ use native.Mathlib.Omega.{arith}
 use lib.ListN.{length, getD}
 use lib.Seq.{sets, sets-eq}
 use borrow.Author.Tests.{le-leb, lt-leb}
-use Rattle.theory.specs.Automaton.{Automaton}
+use Rattle.theory.specs.Automaton.{Automaton, Closed}
 use Rattle.theory.specs.Monitor.{Monitor, stateLimit}
 use Rattle.theory.specs.Faults.{steps}
 use Rattle.theory.specs.Answer.{Answer, refused, answered, asks, written}
@@ -18,20 +18,22 @@ use Rattle.theory.specs.Computed.{firstHarmful}
 use Rattle.theory.proofs.Below.{lt-or-le}
 use Rattle.theory.proofs.Faults.{steps-good, steps-rise}
 use Rattle.theory.proofs.Witness.{none-harms, first-harms, first-least}
-use Rattle.square.specs.Square.{never}
+use Rattle.square.specs.Square.{never, Squared}
+use Rattle.totals.specs.declared.Least.{Least}
 use Rattle.witness.specs.Figures.{WitnessFigures, FaultFigures, seriesFigures, witnessFigures, witnessTrace, roomQuestions}
-use Rattle.witness.proofs.Search.{Searched, total-least, total-found, search-none}
+use Rattle.witness.specs.Search.{Searched}
+use Rattle.witness.proofs.Search.{total-least, total-found, search-none}
 
-module _ {g : Automaton} {ends : ℕ → ℕ → Bool} {set : ℕ} {square costs v : List ℕ} (h : Searched g ends set square costs v) {start : ℕ}
-    (start-in : start < g .states) where
+module _ {g : Automaton} {ends : ℕ → ℕ → Bool} {start set count : ℕ} {square order depths costs : List ℕ} {least : Least} (closed : Closed g)
+    (squared : Squared g ends square) (start-in : start < g .states) (h : Searched g start set square order depths costs count least) where
   abbrev pub first : Option Series
   first = firstHarmful g ends (steps set (g .symbols)) start
 
   abbrev total : ℕ
-  total = getD v start 0
+  total = least .total
 
   pub is-number : (total ≡ never → ⊥) → total < never
-  is-number not = ⊎-elim (λ l. l) (λ l. (let m = h .relaxed .bounded .most start start-in in absurd (not (omega (arith, m, l))))) (lt-or-le total never)
+  is-number not = ⊎-elim (λ l. l) (λ l. absurd (not (omega (arith, h .costed .most, l)))) (lt-or-le total never)
 
   -- where the total is a number, it is the length of the first harmful series
   pub search-some : total < never → (s : Series) × (first ≡ some s) × (length (sentTrace s) ≡ total)
@@ -39,13 +41,13 @@ module _ {g : Automaton} {ends : ℕ → ℕ → Bool} {set : ℕ} {square costs
     where
       go : (o : Option Series) → first ≡ o → (s : Series) × (first ≡ some s) × (length (sentTrace s) ≡ total)
       go none e =
-          let f = total-found h start start-in low in
-          absurd (none-harms g ends (steps set (g .symbols)) (h .closed) (steps-good g set) start start-in e (f .0) (f .1))
+          let f = total-found closed squared start-in h low in
+          absurd (none-harms g ends (steps set (g .symbols)) closed (steps-good g set) start start-in e (f .0) (f .1))
       go (some s) e =
-          let f = total-found h start start-in low in
-          let r = first-harms g ends (steps set (g .symbols)) (h .closed) (steps-good g set) start start-in (steps-rise set (g .symbols)) s e in
-          let x = first-least g ends (steps set (g .symbols)) (h .closed) (steps-good g set) start start-in (steps-rise set (g .symbols)) r (f .0) (f .1) in
-          let y = total-least h start s start-in (r .harm) in
+          let f = total-found closed squared start-in h low in
+          let r = first-harms g ends (steps set (g .symbols)) closed (steps-good g set) start start-in (steps-rise set (g .symbols)) s e in
+          let x = first-least g ends (steps set (g .symbols)) closed (steps-good g set) start start-in (steps-rise set (g .symbols)) r (f .0) (f .1) in
+          let y = total-least closed squared start-in h s (r .harm) in
           let z = f .2 in
           (s, e, omega (arith, x, y, z))
 
@@ -54,7 +56,7 @@ module _ {g : Automaton} {ends : ℕ → ℕ → Bool} {set : ℕ} {square costs
     answer = asks (roomQuestions first room) (witnessFigures read m first)
 
     pub says-immune : g .states ≤ stateLimit → never ≤ total → answered none ≡ answer
-    says-immune small e = rw (search-none h small start start-in e, le-leb 0 room zero-le)
+    says-immune small e = rw (search-none closed squared start-in h small e, le-leb 0 room zero-le)
 
     pub says-no-room : total < never → room < total → refused 13 0 ≡ answer
     says-no-room low l =
@@ -70,7 +72,7 @@ module _ {g : Automaton} {ends : ℕ → ℕ → Bool} {set : ℕ} {square costs
         ap (λ (w : WitnessFigures). answered (some w)) (are (s .0) (s .1)) ∙ sym (rw (s .1, le-leb (length (sentTrace (s .0))) room (omega (arith, z, l))))
 
   pub immune-keeps : (area : List ℕ) → g .states ≤ stateLimit → never ≤ total → area ≡ written {A = FaultFigures} (answered none) (witnessTrace first) area
-  immune-keeps area small e = rw (search-none h small start start-in e)
+  immune-keeps area small e = rw (search-none closed squared start-in h small e)
 
   pub witness-fills : {A : Type 0} (values : A) (area : List ℕ) {after : List ℕ} → total < never → total ≤ length area
       → ((s : Series) → first ≡ some s → after ≡ sets area 0 (sentTrace s)) → after ≡ written (answered values) (witnessTrace first) area

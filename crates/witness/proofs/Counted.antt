@@ -15,6 +15,7 @@ use Rattle.theory.proofs.Faults.{steps-good, steps-rise}
 use Rattle.theory.proofs.Witness.{first-harms, sent-trace, sent-length}
 use Rattle.monitor.specs.declared.Shape.{Shape}
 use Rattle.monitor.specs.Opening.{monitorFrom}
+use Rattle.monitor.proofs.Rows.{next-of-rows}
 use Rattle.square.specs.Square.{apartAtOnce}
 use Rattle.faults.specs.Kinds.{bitOf}
 use Rattle.faults.specs.Steps.{traceOf}
@@ -23,22 +24,23 @@ use Rattle.readings.specs.Readings.{counted}
 use Rattle.readings.proofs.Traces.{trace-passed}
 use Rattle.counts.specs.declared.Counts.{Counts}
 use Rattle.counts.specs.Traces.{deliveredTrace, FaultWithin}
+use Rattle.totals.specs.declared.Least.{Least}
 use Rattle.witness.specs.declared.Harm.{Harm}
 use Rattle.witness.specs.Figures.{seriesFigures, witnessValues}
 use Rattle.witness.specs.Search.{automatonIn, firstOf, Ready, Makes}
-use Rattle.witness.proofs.Made.{search-ready}
 use Rattle.witness.proofs.Answers.{search-some}
 
-module _ {t : Shape} {set : ℕ} {outs square costs v ts : List ℕ} {room : ℕ} (r : Ready t set outs square costs v ts room) where
+module _ {t : Shape} {set : ℕ} {outs square order depths costs ts : List ℕ} {count : ℕ} {least : Least} {room : ℕ}
+    (r : Ready t set outs square order depths costs ts count least room) where
   abbrev g : Automaton
   g = automatonIn t ts
 
-  -- there is a first series, as long as the total of the start
-  pub ready-first : (s : Series) × (firstOf t square ts set ≡ some s) × (length (sentTrace s) ≡ getD v (t .start) 0)
-  ready-first = search-some (search-ready r) (r .posed .start-in) (r .some)
+  -- there is a first series, as long as the total
+  pub ready-first : (s : Series) × (firstOf t square ts set ≡ some s) × (length (sentTrace s) ≡ least .total)
+  ready-first = search-some (next-of-rows (r .posed .rows)) (r .posed .squared) (r .posed .start-in) (r .searched) (r .some)
 
   module _ {s : Series} (e : firstOf t square ts set ≡ some s) where
-    long : length (sentTrace s) ≡ getD v (t .start) 0
+    long : length (sentTrace s) ≡ least .total
     long = ap (λ (z : Series). length (sentTrace z)) (some-same (sym e ∙ ready-first .1)) ∙ ready-first .2
 
     module _ {h : Harm} (k : Makes g (t .start) outs s h) where
@@ -56,7 +58,7 @@ module _ {t : Shape} {set : ℕ} {outs square costs v ts : List ℕ} {room : ℕ
 
       pub made-within : FaultWithin t (sentTrace s) (h .before) (h .fault)
       made-within =
-          let valid = first-harms g (apartAtOnce square) (steps set (t .symbols)) (search-ready r .closed) (steps-good g set) (t .start) (r .posed .start-in)
+          let valid = first-harms g (apartAtOnce square) (steps set (t .symbols)) (next-of-rows (r .posed .rows)) (steps-good g set) (t .start) (r .posed .start-in)
           (steps-rise set (t .symbols)) s e .harm .valid in
           record {
             trace = trace-passed g (sentTrace s) (sent-trace g (steps set (t .symbols)) (steps-good g set) s valid);

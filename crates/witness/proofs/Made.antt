@@ -21,26 +21,18 @@ use Rattle.monitor.proofs.Rows.{next-of-rows}
 use Rattle.square.specs.Square.{never, entry, apartAtOnce, path}
 use Rattle.square.proofs.Path.{path-length}
 use Rattle.faults.specs.declared.Fault.{Fault}
-use Rattle.faults.specs.Steps.{stepFor, Ranged, costOf, costing, Costs}
+use Rattle.faults.specs.Steps.{stepFor, Ranged, costOf, costing}
 use Rattle.faults.proofs.AtMostTwo.{count-is}
-use Rattle.totals.specs.Totals.{Relaxed, wayToFault}
+use Rattle.totals.specs.declared.Least.{Least}
+use Rattle.totals.specs.Totals.{wayToFault, OnTheWay}
 use Rattle.witness.specs.declared.Harm.{Harm}
-use Rattle.witness.specs.Search.{automatonIn, Posed, Ready, Makes}
-use Rattle.witness.proofs.Search.{Searched, search-finds, cost-sum}
+use Rattle.witness.specs.Search.{automatonIn, Ready, Makes}
+use Rattle.witness.proofs.Search.{cost-sum, start-left, search-finds}
 
 pub sets-append : (l : List ℕ) (i : ℕ) (xs ys : List ℕ) → sets (sets l i xs) (i + length xs) ys ≡ sets l i (xs ++ ys)
 sets-append l i [] ys = ap (λ (j : ℕ). sets l j ys) (add-zero i)
 sets-append l i (x ∷ xs) ys =
     ap (λ (j : ℕ). sets (sets (set l i x) (suc i) xs) j ys) (add-suc i (length xs) ∙ sym (suc-add i (length xs))) ∙ sets-append (set l i x) (suc i) xs ys
-
-pub searched : (set : ℕ) {t : Shape} {outs square costs v ts : List ℕ} → Posed t outs square ts
-    → Costs (automatonIn t ts) square (steps set (t .symbols)) (t .states) costs → Relaxed (automatonIn t ts) costs v
-    → Searched (automatonIn t ts) (apartAtOnce square) set square costs v
-searched set p c r = record { closed = next-of-rows (p .rows); squared = p .squared; costs-are = c; relaxed = r }
-
-pub search-ready : {t : Shape} {set : ℕ} {outs square costs v ts : List ℕ} {room : ℕ} → Ready t set outs square costs v ts room
-    → Searched (automatonIn t ts) (apartAtOnce square) set square costs v
-search-ready {set = set} r = searched set (r .posed) (r .costs-are) (r .relaxed)
 
 -- `count` symbols lead from the start to `state`, where the fault is the first that costs what the state does
 pub record Chosen (g : Automaton) (set : ℕ) (square costs v : List ℕ) (start state count : ℕ) (fault : Fault) : Type 0 where
@@ -52,8 +44,21 @@ pub record Chosen (g : Automaton) (set : ℕ) (square costs v : List ℕ) (start
   pub picked : find (costing g square state (getD costs state 0)) (steps set (g .symbols)) ≡ some (stepFor fault)
   pub ranged : Ranged (g .symbols) fault
 
-module _ {g : Automaton} {ends : ℕ → ℕ → Bool} {set : ℕ} {square costs v : List ℕ} {start state count : ℕ} {fault : Fault}
-    (h : Searched g ends set square costs v)
+-- the first fault with the cost of the state where the way ends makes the first harmful series
+abbrev pub Finds : Automaton → (ℕ → ℕ → Bool) → ℕ → List ℕ → List ℕ → List ℕ → ℕ → Type 0
+Finds g ends set square costs v start =
+    let q = run g start (wayToFault g v costs start) in
+    (f : FaultStep) → find (costing g square q (getD costs q 0)) (steps set (g .symbols)) ≡ some f
+    → firstHarmful g ends (steps set (g .symbols)) start
+    ≡ some
+    (record {
+      before = wayToFault g v costs start;
+      fault = f;
+      after = path g square (entry square (run g q (f .sent)) (run g q (f .received))) (run g q (f .sent)) (run g q (f .received));
+    })
+
+module _ {g : Automaton} (ends : ℕ → ℕ → Bool) {set : ℕ} {square costs v : List ℕ} {start state count : ℕ} {fault : Fault}
+    (h : Finds g ends set square costs v start)
     (k : Chosen g set square costs v start state count fault) where
   abbrev way : List ℕ
   way = wayToFault g v costs start
@@ -112,7 +117,7 @@ module _ {g : Automaton} {ends : ℕ → ℕ → Bool} {set : ℕ} {square costs
         after = path g square (entry square (run g q (step .sent)) (run g q (step .received))) (run g q (step .sent)) (run g q (step .received));
       }))
       (sym (k .is-state))
-      (search-finds h start step (k .start-in) (k .low)) (k .picked)
+      (h step) (k .picked)
 
   -- the first series is the one made
   pub made-is : {s : Series} → firstHarmful g ends (steps set (g .symbols)) start ≡ some s → made ≡ s
@@ -133,14 +138,14 @@ module _ {g : Automaton} {ends : ℕ → ℕ → Bool} {set : ℕ} {square costs
       ∙ ap (λ (t : Series). sets area 0 (sentTrace t)) (made-is e)
 
   -- what is handed out is the first series
-  pub made-makes : {s : Series} (outs : List ℕ) {x y p q : ℕ} → firstHarmful g ends (steps set (g .symbols)) start ≡ some s
+  pub made-makes : {s : Series} (outs : List ℕ) {x y p q total : ℕ} → getD v start 0 ≡ total → firstHarmful g ends (steps set (g .symbols)) start ≡ some s
       → p ≡ run g state (step .sent) → q ≡ run g state (step .received)
       → x ≡ run g p (path g square (entry square p q) p q) → y ≡ run g q (path g square (entry square p q) p q)
-      → Makes g start outs s (record { distance = getD v start 0; before = count; fault = fault; sent = getD outs x 0; received = getD outs y 0 })
-  made-makes {s} outs {x} {y} e ep eq ex ey =
+      → Makes g start outs s (record { distance = total; before = count; fault = fault; sent = getD outs x 0; received = getD outs y 0 })
+  made-makes {s} outs {x} {y} {total = total} et e ep eq ex ey =
       subst (λ (z : Series). Makes g start outs z harm) (made-is e)
       (record {
-        distance = distance;
+        distance = sym et ∙ distance;
         before = k .is-count;
         fault = refl;
         ranged = k .ranged;
@@ -149,7 +154,7 @@ module _ {g : Automaton} {ends : ℕ → ℕ → Bool} {set : ℕ} {square costs
       })
     where
       harm : Harm
-      harm = record { distance = getD v start 0; before = count; fault = fault; sent = getD outs x 0; received = getD outs y 0 }
+      harm = record { distance = total; before = count; fault = fault; sent = getD outs x 0; received = getD outs y 0 }
 
       distance : getD v start 0 ≡ length (sentTrace made)
       distance =
@@ -161,3 +166,14 @@ module _ {g : Automaton} {ends : ℕ → ℕ → Bool} {set : ℕ} {square costs
 
       received : run g (run g state (step .received)) (made .after) ≡ run g start (receivedTrace made)
       received = ap (λ (r : ℕ). run g (run g r (step .received)) (made .after)) (k .is-state) ∙ sym (run-parts g start way (step .received) (made .after))
+
+-- ---- what a search has found, with what is left on the way
+
+module _ {t : Shape} {set : ℕ} {outs square order depths costs ts : List ℕ} {count : ℕ} {least : Least} {room : ℕ}
+    (r : Ready t set outs square order depths costs ts count least room)
+    {v : List ℕ} (way : OnTheWay (automatonIn t ts) order depths costs (least .total) 0 (least .visited) v) where
+  pub ready-left : getD v (t .start) 0 ≡ least .total
+  ready-left = start-left (next-of-rows (r .posed .rows)) (r .posed .squared) (r .posed .start-in) (r .searched) (r .some) way
+
+  pub ready-finds : Finds (automatonIn t ts) (apartAtOnce square) set square costs v (t .start)
+  ready-finds = search-finds (next-of-rows (r .posed .rows)) (r .posed .squared) (r .posed .start-in) (r .searched) (r .some) way

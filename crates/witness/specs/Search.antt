@@ -16,8 +16,11 @@ use Rattle.monitor.specs.Format.{automatonOf, Rows}
 use Rattle.monitor.specs.Opening.{monitorFrom}
 use Rattle.monitor.specs.declared.Shape.{Shape}
 use Rattle.square.specs.Square.{never, Squared, apartAtOnce}
-use Rattle.faults.specs.Steps.{stepFor, Ranged, Costs}
-use Rattle.totals.specs.Totals.{Relaxed}
+use Rattle.faults.specs.Steps.{stepFor, Ranged}
+use Rattle.faults.specs.Looks.{OfSet}
+use Rattle.layers.specs.Layers.{Explored}
+use Rattle.totals.specs.declared.Least.{Least}
+use Rattle.totals.specs.Totals.{Costed, Enough}
 use Rattle.witness.specs.declared.Harm.{Harm}
 use Rattle.witness.specs.Figures.{FaultFigures, witnessFigures, roomQuestions}
 
@@ -42,13 +45,20 @@ pub record Posed (t : Shape) (outs square ts : List ℕ) : Type 0 where
   pub start-in : t .start < t .states
   pub squared : Squared (automatonIn t ts) (apartAtOnce square) square
 
--- with the costs and totals of one set, a witness, and room for it
-pub record Ready (t : Shape) (set : ℕ) (outs square costs totals ts : List ℕ) (room : ℕ) : Type 0 where
+-- what the search of one set has found: the layers, the costs at the states visited, and the least total
+pub record Searched (g : Automaton) (start set : ℕ) (square order depths costs : List ℕ) (count : ℕ) (least : Least)
+    : Type 0 where
+  pub explored : Explored g start count order depths
+  pub costed : Costed g square (OfSet set (g .symbols)) order depths (least .visited) costs (least .total)
+  pub enough : Enough order depths count (least .visited) (least .total)
+
+-- the same where there is a witness, and room for it
+pub record Ready (t : Shape) (set : ℕ) (outs square order depths costs ts : List ℕ) (count : ℕ) (least : Least) (room : ℕ)
+    : Type 0 where
   pub posed : Posed t outs square ts
-  pub costs-are : Costs (automatonIn t ts) square (steps set (t .symbols)) (t .states) costs
-  pub relaxed : Relaxed (automatonIn t ts) costs totals
-  pub some : getD totals (t .start) 0 < never
-  pub fits : getD totals (t .start) 0 ≤ room
+  pub searched : Searched (automatonIn t ts) (t .start) set square order depths costs count least
+  pub some : least .total < never
+  pub fits : least .total ≤ room
 
 -- what the search hands out of the series s
 pub record Makes (g : Automaton) (start : ℕ) (outs : List ℕ) (s : Series) (h : Harm) : Type 0 where

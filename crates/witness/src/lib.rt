@@ -11,6 +11,7 @@ use square::NEVER;
 use square::Test;
 use theory::SQUARE_SIZE;
 use theory::STATE_LIMIT;
+use totals::Least;
 ghost use mathlib.Core.Path.{_≡_};
 ghost use mathlib.Core.Option.{some};
 ghost use Prim.Native.Nat.{_<_};
@@ -21,6 +22,8 @@ ghost use Rattle.theory.specs.Series.{Series};
 ghost use Rattle.monitor.specs.Format.{monitorOf};
 ghost use Rattle.monitor.specs.Opening.{monitorIn, TableIn};
 ghost use Rattle.square.specs.Square.{Blank};
+ghost use Rattle.faults.specs.Looks.{Suited};
+ghost use Rattle.layers.specs.Layers.{Explored};
 ghost use Rattle.witness.specs.Figures.{seriesFigures, witnessTrace, roomQuestions, witnessValues, outcome};
 ghost use Rattle.witness.specs.Figures.{firstBy, figuresBy, witnessQuestions, witnessAnswer, ofReading};
 ghost use Rattle.witness.specs.Search.{firstOf, answerOf, Posed, Ready, Makes, SentInto, automatonIn};
@@ -61,15 +64,18 @@ struct Harm {
 fn harm_of(
     outputs: &[u8],
     square: &[u16],
-    costs: &[usize; STATE_LIMIT],
-    totals: &[usize; STATE_LIMIT],
+    order: &[u8; STATE_LIMIT],
+    depths: &[u8; STATE_LIMIT],
+    costs: &[u16; STATE_LIMIT],
+    count: usize,
+    least: Least,
     nexts: &[u8],
     t: Shape,
     set: FaultSet,
     area: &mut [u8],
 ) -> Harm
-    requires { ⌜ Ready t (set .bits) (now outputs) (now square) (now costs) (now totals) (now nexts)
-        (length (now area)) ⌝ }
+    requires { ⌜ Ready t (set .bits) (now outputs) (now square) (now order) (now depths) (now costs) (now nexts)
+        count least (length (now area)) ⌝ }
     ensures series { λ r. ⌜ ((s : Series) → firstOf t (now (square .entry)) (now (nexts .entry)) (set .bits) ≡ some s
         → Makes (automatonIn t (now (nexts .entry))) (t .start) (now (outputs .entry)) s r) ⌝ }
     ensures area { λ _. ⌜ SentInto (firstOf t (now (square .entry)) (now (nexts .entry)) (set .bits))
@@ -78,10 +84,12 @@ fn harm_of(
     let n = t.states;
     let k = t.symbols;
     let start = t.start;
-    let approach = totals::write_before(totals, costs, nexts, n, k, start, area);
+    let mut totals = totals::unused();
+    totals::enter_totals(&mut totals, costs, order, depths, nexts, n, k, count, least);
+    let approach = totals::write_before(&totals, costs, nexts, n, k, start, area);
     let state = approach.state;
     let count = approach.count;
-    let fault = faults::fault_with(square, nexts, n, k, set, state, costs[state]);
+    let fault = faults::fault_with(square, nexts, n, k, set, state, costs[state] as usize);
     faults::write_symbols(fault.sent, area, count);
     let p = faults::after(nexts, n, k, state, fault.sent);
     let q = faults::after(nexts, n, k, state, fault.received);
@@ -90,7 +98,7 @@ fn harm_of(
     let sent = end.sent;
     let received = end.received;
     Harm {
-        distance: totals[start],
+        distance: least.total,
         before: count,
         fault,
         sent: outputs[sent] as usize,
@@ -103,22 +111,38 @@ fn witness_of(
     marks: &[u8],
     outputs: &[u8],
     square: &[u16],
-    costs: &[usize; STATE_LIMIT],
-    totals: &[usize; STATE_LIMIT],
+    order: &[u8; STATE_LIMIT],
+    depths: &[u8; STATE_LIMIT],
+    costs: &[u16; STATE_LIMIT],
+    count: usize,
+    least: Least,
     nexts: &[u8],
     t: Shape,
     set: FaultSet,
     area: &mut [u8],
 ) -> Witness
     requires { ⌜ TableIn t marks nexts
-        × Ready t (set .bits) (now outputs) (now square) (now costs) (now totals) (now nexts) (length (now area)) ⌝ }
+        × Ready t (set .bits) (now outputs) (now square) (now order) (now depths) (now costs) (now nexts)
+        count least (length (now area)) ⌝ }
     ensures figures { λ r. ⌜ ((s : Series) → firstOf t (now (square .entry)) (now (nexts .entry)) (set .bits) ≡ some s
         → witnessValues r
         ≡ seriesFigures (λ q. getD (now (outputs .entry)) q 0) (monitorIn t (marks .entry) (nexts .entry)) s) ⌝ }
     ensures area { λ _. ⌜ SentInto (firstOf t (now (square .entry)) (now (nexts .entry)) (set .bits))
         (now (area .entry)) (now (area .exit)) ⌝ }
 {
-    let harm = harm_of(outputs, square, costs, totals, nexts, t, set, area);
+    let harm = harm_of(
+        outputs,
+        square,
+        order,
+        depths,
+        costs,
+        count,
+        least,
+        nexts,
+        t,
+        set,
+        area,
+    );
     let fault = harm.fault;
     let kind = fault.kind;
     let trace = basics::part(area, 0, harm.distance);
@@ -134,18 +158,24 @@ fn witness_of(
     }
 }
 
-// The first witness of one fault set, from what all sets of a table and a test share.
+// The first witness of one fault set, from what all sets of a table and a test share: the square, and the layers.
 pub fn find_first(
     marks: &[u8],
     outputs: &[u8],
     square: &[u16],
+    order: &[u8; STATE_LIMIT],
+    depths: &[u8; STATE_LIMIT],
+    count: usize,
     nexts: &[u8],
     t: Shape,
     set: FaultSet,
+    test: Test,
     area: &mut [u8],
 ) -> Outcome
     requires { ⌜ TableIn t marks nexts
-        × Posed t (now outputs) (now square) (now nexts) ⌝ }
+        × Posed t (now outputs) (now square) (now nexts)
+        × Suited test (t .states) (now square)
+        × Explored (automatonIn t (now nexts)) (t .start) count (now order) (now depths) ⌝ }
     ensures figures { λ r. ⌜ outcome r
         ≡ answerOf t (now (marks .entry)) (now (outputs .entry)) (now (square .entry)) (now (nexts .entry)) (set .bits)
         (length (now (area .entry))) ⌝ }
@@ -153,22 +183,44 @@ pub fn find_first(
         ≡ written (outcome r) (witnessTrace (firstOf t (now (square .entry)) (now (nexts .entry)) (set .bits)))
         (now (area .entry)) ⌝ }
 {
-    let start = t.start;
-    let mut costs = faults::no_costs();
-    faults::enter_costs(&mut costs, square, nexts, t.states, t.symbols, set);
-    let mut totals = costs;
-    totals::relax(&mut totals, nexts, t.states, t.symbols);
-    let distance = totals[start];
-    if distance == NEVER {
+    let n = t.states;
+    let k = t.symbols;
+    let mut costs = totals::unused();
+    let least = totals::enter_costs(
+        &mut costs,
+        order,
+        depths,
+        count,
+        square,
+        nexts,
+        n,
+        k,
+        set,
+        test,
+    );
+    if least.total == NEVER {
         return Outcome::None;
     }
-    if area.len() < distance {
+    if area.len() < least.total {
         return Outcome::Refused(Refusal {
             number: 13,
             place: 0,
         });
     }
-    Outcome::Found(witness_of(marks, outputs, square, &costs, &totals, nexts, t, set, area))
+    Outcome::Found(witness_of(
+        marks,
+        outputs,
+        square,
+        order,
+        depths,
+        &costs,
+        count,
+        least,
+        nexts,
+        t,
+        set,
+        area,
+    ))
 }
 
 // The first witness of a table under a reading and a test, in a blank square.
@@ -195,7 +247,22 @@ fn search_in(
     readings::write_readings(marks, nexts, t, domain, &mut outputs);
     let read = &outputs[..n];
     pairs::enter_distances(square, nexts, n, t.symbols, read, test);
-    find_first(marks, read, square, nexts, t, set, area)
+    let mut order = layers::blank();
+    let mut depths = layers::blank();
+    let count = layers::explore(&mut order, &mut depths, nexts, n, t.symbols, t.start);
+    find_first(
+        marks,
+        read,
+        square,
+        &order,
+        &depths,
+        count,
+        nexts,
+        t,
+        set,
+        test,
+        area,
+    )
 }
 
 // The same: the square has as many rows as the table needs, few or all.

@@ -19,12 +19,12 @@ loop-holds : tie.Need-loop-holds Inv-loop μ-loop
 loop-holds c =
     let start = c .before .before .before in
     let begun = c .begin .ensures in
-    cost-begins (start .args .set .bits) (start .args .k) (start .pre .1 .1 .0) (start .pre .1 .1 .1 .0) (c .begin .result) (begun .0) (begun .1)
+    cost-begins (start .args .set .bits) (start .args .k) (start .pre .1 .1 .0) (c .begin .result) (begun .0) (begun .1)
 
 cost-of-requires : tie.Need-cost-of-requires Inv-loop μ-loop
 cost-of-requires c κs =
     let start = c .before .before .before .before .before in
-    (start .pre .0, (start .pre .1 .0, (c .step .ensures .1 (start .args .k) (c .before .loop .inv .placed), start .pre .1 .1 .1 .1)))
+    (start .pre .0, (start .pre .1 .0, (c .step .ensures .1 (start .args .k) (c .before .loop .inv .placed), start .pre .1 .1 .1)))
 
 loop-less : tie.Need-loop-less Inv-loop μ-loop
 loop-less c = seek-less (c .before .before .before .before .loop .inv) (c .next .result) (c .next .ensures .0)
@@ -32,7 +32,7 @@ loop-less c = seek-less (c .before .before .before .before .loop .inv) (c .next 
 loop-again : tie.Need-loop-again Inv-loop μ-loop
 loop-again c =
     let start = c .before .before .before .before .before .before .before .before in
-    cost-goes-on (start .args .set .bits) (start .args .k) (start .pre .1 .1 .0) (start .pre .1 .1 .1 .0) (c .before .before .before .before .loop .inv)
+    cost-goes-on (start .args .set .bits) (start .args .k) (start .pre .1 .1 .0) (c .before .before .before .before .loop .inv)
     (c .before .before .cost-of .ensures) (c .before .before .before .step .ensures .0) (c .before .if1 .taken)
     (c .next .result) (c .next .ensures .0) (c .next .ensures .1)
 
@@ -40,7 +40,7 @@ returns : tie.Need-returns Inv-loop μ-loop
 returns c =
     let start = c .before .before .before .before .before .before .before .before in
     let here = c .before .before .before .before .loop .inv in (
-      cost-found (start .args .set .bits) (start .args .k) (start .pre .1 .1 .0) (start .pre .1 .1 .1 .0) here
+      cost-found (start .args .set .bits) (start .args .k) (start .pre .1 .1 .0) here
           (c .before .before .cost-of .ensures) (c .before .before .before .step .ensures .0) (c .before .if1 .left) (c .step2 .ensures .0),
       c .step2 .ensures .1 (start .args .k) (here .placed),
     )

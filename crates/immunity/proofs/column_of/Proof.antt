@@ -3,6 +3,8 @@ use mathlib.Core.Path.{_∙_}
 use borrow.Author.Needs.{needs}
 use Rattle.monitor.specs.Opening.{monitorIn}
 use Rattle.square.specs.declared.Test.the-variants.{Differ}
+use Rattle.faults.proofs.Looks.{suited}
+use Rattle.witness.specs.Search.{automatonIn}
 use Rattle.witness.proofs.Tables.{table-posed}
 use Rattle.immunity.proofs.Marks.{marks-answer, alone}
 use Rattle.immunity.proofs.column_of.Statement.{statement}
@@ -10,8 +12,14 @@ use Rattle.immunity.proofs.column_of.Tie as tie
 
 find-first-requires : tie.Need-find-first-requires
 find-first-requires c κs =
-    let p = c .before .before .before .before .before .before .before .before .pre in
-    (p .0, table-posed (p .0) (p .0 .rows) Differ (p .0 .marks-length) (p .1))
+    let s = c .before .before .before .before .before .before .before .before in
+    let a = s .args in
+    let p = s .pre in (
+      p .0,
+      table-posed (p .0) (p .0 .rows) Differ (p .0 .marks-length) (p .1),
+      suited (automatonIn (a .t) (a .nexts .now)) Differ (a .marks .now) (a .square .now) (p .1),
+      p .2,
+    )
 
 returns : tie.Need-returns
 returns c =
@@ -21,7 +29,7 @@ returns c =
     let set = w .before .before .with in
     let kind = w .before .before .before .kind-at in
     let said = c .finding-of .ensures ∙ w .find-first .ensures .0 in
-    let found = marks-answer (s .pre .0) (set .result .bits) _ (a .square .now) (s .pre .1) (s .pre .3) said in
+    let found = marks-answer (s .pre .0) (set .result .bits) _ (a .square .now) (s .pre .1) (s .pre .4) said in
     let none = w .before .before .before .before .empty .ensures in
     alone (monitorIn (a .t) (a .marks) (a .nexts)) (a .rank) (kind .result) (kind .ensures) none (set .ensures) found
 

@@ -12,14 +12,14 @@ use Rattle.immunity.proofs.columns_of.Statement.{statement}
 use Rattle.immunity.proofs.columns_of.Tie as tie
 
 abbrev Inv-loop : tie.InvT-loop
-Inv-loop marks square nexts t area₀ columns₀ rank₀ area columns rank =
+Inv-loop marks square order depths count nexts t area₀ columns₀ rank₀ area columns rank =
     Filled (alone-in (tableOf (t .states) (t .symbols) (t .start) marks nexts)) rank columns × (length area ≡ length area₀)
 
 abbrev μ-loop : tie.MeasureT-loop
-μ-loop marks square nexts t area₀ columns₀ rank₀ area columns rank = kinds - rank
+μ-loop marks square order depths count nexts t area₀ columns₀ rank₀ area columns rank = kinds - rank
 
 column-of-requires : tie.Need-column-of-requires Inv-loop μ-loop
-column-of-requires c κs = (let p = c .before .before .before .before .before .pre in (p .0, p .1, search needs, p .2))
+column-of-requires c κs = (let p = c .before .before .before .before .before .pre in (p .0, p .1, p .2, search needs, p .3))
 
 loop-holds : tie.Need-loop-holds Inv-loop μ-loop
 loop-holds c =
@@ -29,7 +29,7 @@ loop-holds c =
 column-of-requires-2 : tie.Need-column-of-requires-2 Inv-loop μ-loop
 column-of-requires-2 c κs =
     let p = c .before .before .before .before .before .before .before .before .before .before .before .pre in
-    (p .0, p .1, c .before .loop-test .taken, omega (arith, p .2, c .before .before .loop .inv .1, c .before .before .before .before .area .given))
+    (p .0, p .1, p .2, c .before .loop-test .taken, omega (arith, p .3, c .before .before .loop .inv .1, c .before .before .before .before .area .given))
 
 loop-again : tie.Need-loop-again Inv-loop μ-loop
 loop-again c =

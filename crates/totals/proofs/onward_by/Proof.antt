@@ -1,4 +1,5 @@
 -- `onward_by` meets its contract: none of the symbols passed leads to a state with this total.
+use mathlib.Core.Path.{sym, _∙_}
 use Prim.Native.Nat.{_-_}
 use native.Mathlib.Omega.{arith}
 use borrow.Author.Needs.{needs}
@@ -20,19 +21,19 @@ loop-holds c = scan-begins _ _ _
 
 returns : tie.Need-returns Inv-loop μ-loop
 returns c =
-    let a = c .before .before .before .before .before .before .args in
-    let at = c .before .before .before .before .loop in
+    let a = c .before .before .before .before .before .before .before .args in
+    let at = c .before .before .before .before .before .loop in
     scan-finds (at .inv)
-    (leads-as (automatonOf (a .n) (a .k) (a .nexts .now)) (a .totals .now) (a .total) (a .p) (at .a) (c .before .before .successor .ensures .0)
-    (eq-eqb _ _ (c .if1 .taken)))
+    (leads-as (automatonOf (a .n) (a .k) (a .nexts .now)) (a .totals .now) (a .total) (a .p) (at .a) (c .before .before .before .successor .ensures .0)
+    (eq-eqb _ _ (sym (c .before .wide .ensures) ∙ c .if1 .taken)))
 
 loop-again : tie.Need-loop-again Inv-loop μ-loop
 loop-again c =
-    let a = c .before .before .before .before .before .before .args in
-    let at = c .before .before .before .before .loop in
-    scan-goes-on (at .inv) (omega (arith, c .before .before .before .loop-test .taken))
-    (leads-as (automatonOf (a .n) (a .k) (a .nexts .now)) (a .totals .now) (a .total) (a .p) (at .a) (c .before .before .successor .ensures .0)
-    (ne-eqb _ _ (c .if1 .left)))
+    let a = c .before .before .before .before .before .before .before .args in
+    let at = c .before .before .before .before .before .loop in
+    scan-goes-on (at .inv) (omega (arith, c .before .before .before .before .loop-test .taken))
+    (leads-as (automatonOf (a .n) (a .k) (a .nexts .now)) (a .totals .now) (a .total) (a .p) (at .a) (c .before .before .before .successor .ensures .0)
+    (ne-eqb _ _ (λ e. c .if1 .left (c .before .wide .ensures ∙ e))))
 
 returns-2 : tie.Need-returns-2 Inv-loop μ-loop
 returns-2 c = scan-ends (c .before .loop .inv) (omega (arith, c .loop-test .left))
@@ -40,5 +41,5 @@ returns-2 c = scan-ends (c .before .loop .inv) (omega (arith, c .loop-test .left
 pub onward-by-spec : {M : Type 1} → statement M
 onward-by-spec =
     tie.close (tie.spec
-    Inv-loop μ-loop loop-holds (λ c κs. search needs) (λ c. search needs) (λ c. search needs) returns
+    Inv-loop μ-loop loop-holds (λ c κs. search needs) (λ c. search needs) (λ c. search needs) (λ c κs. search needs) returns
     (λ c. search needs) (λ c. search needs) loop-again returns-2)
