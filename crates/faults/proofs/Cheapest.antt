@@ -29,10 +29,7 @@ cost-most : (g : Automaton) (square : List ℕ) (p : ℕ) (s : FaultStep) → co
 cost-most g square p s = plus-most (length (s .sent)) (entry square (run g p (s .sent)) (run g p (s .received)))
 
 module _ {g : Automaton} {square : List ℕ} {p : ℕ} where
-  pub cheapest-none : {These : FaultStep → Type 0} {bound : ℕ} → ((s : FaultStep) → These s → ⊥) → Cheapest g square p These bound never
-  cheapest-none none = record { most = le-refl never; least = λ s i. absurd (none s i); attained = λ l. absurd (omega (arith, l)) }
-
-  -- none is as cheap as the bound
+  -- none is as cheap as the bound, or there is none
   pub cheapest-above : {These : FaultStep → Type 0} {bound : ℕ} → ((s : FaultStep) → These s → bound < costOf g square p s)
       → Cheapest g square p These bound never
   cheapest-above above = record { most = le-refl never; least = λ s i. inr (above s i); attained = λ l. absurd (omega (arith, l)) }
@@ -79,7 +76,7 @@ module _ {g : Automaton} {square : List ℕ} {p : ℕ} where
 
   module _ {These : ℕ → FaultStep → Type 0} {bound : ℕ} where
     pub upto-none : {i : ℕ} → ((j : ℕ) → j < i → (s : FaultStep) → These j s → ⊥) → Cheapest g square p (Upto These i) bound never
-    upto-none none = cheapest-none (λ s h. none (h .0) (h .1) s (h .2))
+    upto-none none = cheapest-above (λ s h. absurd (none (h .0) (h .1) s (h .2)))
 
     pub upto-goes-on : {i a b c : ℕ} → Cheapest g square p (Upto These i) bound a → Cheapest g square p (These i) (min bound a) b → c ≡ min b a
         → Cheapest g square p (Upto These (i + 1)) bound c
@@ -107,6 +104,11 @@ module _ {g : Automaton} {square : List ℕ} {p : ℕ} where
             let m : a ≡ min b a = omega (arith, h) in
             let r = x .attained (omega (arith, l, h)) in
             record { step = r .step; of = (r .of .0, omega (arith, r .of .1), r .of .2); costs = r .costs ∙ m }
+
+    -- those of i are all above it, or there is none
+    pub upto-passes : {i a : ℕ} → Cheapest g square p (Upto These i) bound a → ((s : FaultStep) → These i s → min bound a < costOf g square p s)
+        → Cheapest g square p (Upto These (i + 1)) bound a
+    upto-passes x above = upto-goes-on x (cheapest-above above) (omega (arith, x .most))
 
     pub upto-ends : {i n c : ℕ} → Cheapest g square p (Upto These i) bound c → i ≤ n → n ≤ i → Cheapest g square p (Upto These n) bound c
     upto-ends {c = c} x h l = subst (λ (j : ℕ). Cheapest g square p (Upto These j) bound c) (le-antisymm h l) x

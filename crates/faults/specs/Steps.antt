@@ -56,7 +56,8 @@ pub record Attained (g : Automaton) (square : List ℕ) (p : ℕ) (These : Fault
   pub costs : costOf g square p step ≡ cost
 
 -- of these fault steps none costs less but above the bound, and, where the cost is not never, some step has it
-pub record Cheapest (g : Automaton) (square : List ℕ) (p : ℕ) (These : FaultStep → Type 0) (bound cost : ℕ) : Type 0 where
+pub record Cheapest (g : Automaton) (square : List ℕ) (p : ℕ) (These : FaultStep → Type 0) (bound cost : ℕ)
+    : Type 0 where
   pub most : cost ≤ never
   pub least : (s : FaultStep) → These s → (cost ≤ costOf g square p s) ⊎ (bound < costOf g square p s)
   pub attained : cost < never → Attained g square p These cost

@@ -16,7 +16,7 @@ ghost use Rattle.monitor.specs.Format.{Rows, graph};
 ghost use Rattle.square.specs.Square.{never, HasRows};
 ghost use Rattle.faults.specs.Kinds.{rankOf, bitOf};
 ghost use Rattle.faults.specs.Steps.{traceOf, stepFor, Inside, Ranged, costOf, costing, Attained, Cheapest};
-ghost use Rattle.faults.specs.Looks.{OfFirst, OfKind, OfHeld, OfSet, firsts, secondFrom, Suited};
+ghost use Rattle.faults.specs.Looks.{Upto, OfFirst, OfKind, OfHeld, OfSet, firsts, secondFrom, Suited};
 ghost use Rattle.faults.specs.Rest.{stepsOnward, Placed, stepAt, rest};
 
 // A kind of fault.
@@ -409,8 +409,9 @@ fn cost_of_kind(
     least
 }
 
-// The same where the set has the kind and its faults cover no more symbols than the bound, else NEVER.
-fn cost_if_near(
+// The lesser of `least` and of what the cheapest fault of the kind of this rank costs at p. `least` where the set lacks
+// the kind, or its faults cover more symbols than the bound or than `least`.
+fn least_with(
     square: &[u16],
     nexts: &[u8],
     n: usize,
@@ -420,25 +421,29 @@ fn cost_if_near(
     p: usize,
     rank: usize,
     bound: usize,
+    least: usize,
 ) -> usize
     requires { ⌜ Rows stateLimit n k (now nexts) ⌝ }
     requires { ⌜ p < n ⌝ }
     requires { ⌜ rank < kinds ⌝ }
     requires { ⌜ HasRows n (now square) ⌝ }
     requires { ⌜ Suited test n (now square) ⌝ }
-    ensures { λ r. ⌜ Cheapest (graph n k (nexts .entry)) (now (square .entry)) p (OfHeld (set .bits) k rank) bound r ⌝ }
+    requires { ⌜ Cheapest (graph n k nexts) (now square) p (Upto (OfHeld (set .bits) k) rank) bound least ⌝ }
+    ensures { λ r. ⌜ Cheapest (graph n k (nexts .entry)) (now (square .entry)) p
+        (Upto (OfHeld (set .bits) k) (rank + 1)) bound r ⌝ }
 {
     if set.has(rank) {
         let kind = kind_at(rank);
         let fault = fault_of(kind, 0, 0);
-        if fault.sent.count <= bound {
-            return cost_of_kind(square, nexts, n, k, test, p, kind);
+        if fault.sent.count <= basics::least_of(bound, least) {
+            return basics::least_of(cost_of_kind(square, nexts, n, k, test, p, kind), least);
         }
     }
-    NEVER
+    least
 }
 
-// What the cheapest fault of the set costs at p. Where that is above the bound, any number above it or NEVER.
+// What the cheapest fault of the set costs at p. Where that is above the bound, any number above it or NEVER. Each call
+// names its kind, so that the compiler makes the loops of each kind by themselves.
 pub fn cost_within(
     square: &[u16],
     nexts: &[u8],
@@ -455,15 +460,10 @@ pub fn cost_within(
     requires { ⌜ Suited test n (now square) ⌝ }
     ensures { λ r. ⌜ Cheapest (graph n k (nexts .entry)) (now (square .entry)) p (OfSet (set .bits) k) bound r ⌝ }
 {
-    let mut least = NEVER;
-    let mut rank = 0;
-    while rank < KINDS {
-        let most = basics::least_of(bound, least);
-        let cost = cost_if_near(square, nexts, n, k, set, test, p, rank, most);
-        least = basics::least_of(cost, least);
-        rank += 1;
-    }
-    least
+    let a = least_with(square, nexts, n, k, set, test, p, 0, bound, NEVER);
+    let b = least_with(square, nexts, n, k, set, test, p, 1, bound, a);
+    let c = least_with(square, nexts, n, k, set, test, p, 2, bound, b);
+    least_with(square, nexts, n, k, set, test, p, 3, bound, c)
 }
 
 // The first fault of the set, in the written order, that costs this at p.

@@ -34,7 +34,8 @@ fn expand(
         × NoDeeper found (now order) (now depths) (getD (now depths) p 0 + 1) ⌝ }
     ensures grown { λ r. ⌜ Grown n (getD (now (depths .entry)) p 0 + 1) found r
         (now (order .entry)) (now (order .exit)) (now (depths .entry)) (now (depths .exit)) ⌝ }
-    ensures onward { λ _. ⌜ Onward (graph n k (nexts .entry)) (now (depths .exit)) (getD (now (depths .entry)) p 0 + 1) p k ⌝ }
+    ensures onward { λ _. ⌜ Onward (graph n k (nexts .entry)) (now (depths .exit))
+        (getD (now (depths .entry)) p 0 + 1) p k ⌝ }
     ensures reached { λ _. ⌜ ((start : ℕ) → Reached (graph n k (nexts .entry)) start (now (depths .entry))
         → Reached (graph n k (nexts .entry)) start (now (depths .exit))) ⌝ }
 {

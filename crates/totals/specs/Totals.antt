@@ -1,5 +1,5 @@
--- The least total of a fault set: the fewest symbols of a harmful series from the start, by the depth of the state where
--- its fault is and what the cheapest fault costs there; and the symbols before the fault.
+-- The least total of a fault set: the fewest symbols of a harmful series from the start, by the depth of the state
+-- where its fault is and what the cheapest fault costs there; and the symbols before the fault.
 use mathlib.Core.Path.{_≡_}
 use mathlib.Core.Bool.{cond}
 use mathlib.Core.List.{List, [], _∷_}
@@ -31,7 +31,8 @@ abbrev pub Shallow : List ℕ → List ℕ → ℕ → ℕ → Type 0
 Shallow order depths visited total = (i : ℕ) → i < visited → depthAt order depths i < total
 
 -- some state is so deep that one of these fault steps makes the total there
-pub record Makes (g : Automaton) (square : List ℕ) (These : FaultStep → Type 0) (depths : List ℕ) (total : ℕ) : Type 0 where
+pub record Makes (g : Automaton) (square : List ℕ) (These : FaultStep → Type 0) (depths : List ℕ) (total : ℕ)
+    : Type 0 where
   pub state : ℕ
   pub inside : state < g .states
   pub reached : getD depths state 0 < far
@@ -82,8 +83,8 @@ LeadsOn g v costs l p = (getD costs p 0 ≡ l) ⊎ ((m : ℕ) × (l ≡ suc m) �
 pub record Leading (g : Automaton) (v costs : List ℕ) : Type 0 where
   pub leads : (p l : ℕ) → p < g .states → getD v p 0 ≡ l → l < never → LeadsOn g v costs l p
 
--- of the states of the order from `from` up to `upto` those are on the way that lead on; what is left there and the depth
--- are the total
+-- of the states of the order from `from` up to `upto` those are on the way that lead on; what is left there and the
+-- depth are the total
 pub record OnTheWay (g : Automaton) (order depths costs : List ℕ) (total from upto : ℕ) (v : List ℕ) : Type 0 where
   pub size : length v ≡ stateLimit
   pub left : (q : ℕ) → q < g .states → getD v q 0 < never → getD v q 0 + getD depths q 0 ≡ total

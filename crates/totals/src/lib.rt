@@ -74,7 +74,7 @@ pub fn enter_costs(
     while i < count {
         let p = order[i] as usize;
         let depth = depths[p] as usize;
-        if total <= depth {
+        if total < depth + 1 {
             return Least { total, visited: i };
         }
         let cost = faults::cost_within(square, nexts, n, k, set, test, p, total - depth);
@@ -122,8 +122,10 @@ fn leads_on(
     requires { ⌜ Rows stateLimit n k (now nexts)
         × (p < n)
         × (1 ≤ left) ⌝ }
-    ensures yes { λ r. ⌜ (r ≡ true → LeadsOn (graph n k (nexts .entry)) (now (totals .entry)) (now (costs .entry)) left p) ⌝ }
-    ensures no { λ r. ⌜ (r ≡ false → LeadsOn (graph n k (nexts .entry)) (now (totals .entry)) (now (costs .entry)) left p → ⊥) ⌝ }
+    ensures yes { λ r. ⌜ (r ≡ true
+        → LeadsOn (graph n k (nexts .entry)) (now (totals .entry)) (now (costs .entry)) left p) ⌝ }
+    ensures no { λ r. ⌜ (r ≡ false
+        → LeadsOn (graph n k (nexts .entry)) (now (totals .entry)) (now (costs .entry)) left p → ⊥) ⌝ }
 {
     if wide(costs[p]) == left {
         return true;

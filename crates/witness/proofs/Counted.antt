@@ -58,8 +58,8 @@ module _ {t : Shape} {set : ℕ} {outs square order depths costs ts : List ℕ} 
 
       pub made-within : FaultWithin t (sentTrace s) (h .before) (h .fault)
       made-within =
-          let valid = first-harms g (apartAtOnce square) (steps set (t .symbols)) (next-of-rows (r .posed .rows)) (steps-good g set) (t .start) (r .posed .start-in)
-          (steps-rise set (t .symbols)) s e .harm .valid in
+          let valid = first-harms g (apartAtOnce square) (steps set (t .symbols)) (next-of-rows (r .posed .rows)) (steps-good g set) (t .start)
+          (r .posed .start-in) (steps-rise set (t .symbols)) s e .harm .valid in
           record {
             trace = trace-passed g (sentTrace s) (sent-trace g (steps set (t .symbols)) (steps-good g set) s valid);
             ranged = k .ranged;

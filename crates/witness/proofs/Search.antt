@@ -306,7 +306,8 @@ module _ {g : Automaton} {ends : ℕ → ℕ → Bool} {start set count : ℕ} {
 
     -- where the cost is what is left, the fault comes at once
     at-once : (p l : ℕ) (f : FaultStep) → Live p l → cost p ≡ l → l < never → find (λ s. eqb (costOf g square p s) (cost p)) faults ≡ some f
-        → find (harmful g ends p) (flatMap (struck (g .symbols) l) faults) ≡ some (begin f (path g square (gap p f) (run g p (f .sent)) (run g p (f .received))))
+        → find (harmful g ends p) (flatMap (struck (g .symbols) l) faults)
+        ≡ some (begin f (path g square (gap p f) (run g p (f .sent)) (run g p (f .received))))
     at-once p l f h e s chosen =
         let r = find-in (λ t. eqb (costOf g square p t) (cost p)) faults chosen in
         find-flatMap (harmful g ends p) (λ t. eqb (costOf g square p t) (cost p)) (struck (g .symbols) l) faults
@@ -388,8 +389,9 @@ module _ {g : Automaton} {ends : ℕ → ℕ → Bool} {start set count : ℕ} {
         (cost (run g start (approach g v costs (left start) start)))) faults ≡ some f
         → firstHarmful g ends faults start ≡ some (madeOf (left start) start f)
     search-finds f chosen =
-        subst (λ (l : ℕ). find (λ s. eqb (costOf g square (run g start (approach g v costs l start)) s) (cost (run g start (approach g v costs l start)))) faults
-        ≡ some f → firstHarmful g ends faults start ≡ some (madeOf l start f))
+        subst (λ (l : ℕ).
+        find (λ s. eqb (costOf g square (run g start (approach g v costs l start)) s) (cost (run g start (approach g v costs l start)))) faults ≡ some f
+        → firstHarmful g ends faults start ≡ some (madeOf l start f))
         (sym start-left)
         (λ c. found-first g ends faults closed good start start-in total (madeOf total start f) (total-within low) total-least
         (first-made total start f live-start start-left c))

@@ -53,8 +53,8 @@ pub record Searched (g : Automaton) (start set : ℕ) (square order depths costs
   pub enough : Enough order depths count (least .visited) (least .total)
 
 -- the same where there is a witness, and room for it
-pub record Ready (t : Shape) (set : ℕ) (outs square order depths costs ts : List ℕ) (count : ℕ) (least : Least) (room : ℕ)
-    : Type 0 where
+pub record Ready (t : Shape) (set : ℕ) (outs square order depths costs ts : List ℕ) (count : ℕ) (least : Least)
+    (room : ℕ) : Type 0 where
   pub posed : Posed t outs square ts
   pub searched : Searched (automatonIn t ts) (t .start) set square order depths costs count least
   pub some : least .total < never

@@ -67,7 +67,7 @@ fn harm_of(
     order: &[u8; STATE_LIMIT],
     depths: &[u8; STATE_LIMIT],
     costs: &[u16; STATE_LIMIT],
-    count: usize,
+    found: usize,
     least: Least,
     nexts: &[u8],
     t: Shape,
@@ -75,7 +75,7 @@ fn harm_of(
     area: &mut [u8],
 ) -> Harm
     requires { ⌜ Ready t (set .bits) (now outputs) (now square) (now order) (now depths) (now costs) (now nexts)
-        count least (length (now area)) ⌝ }
+        found least (length (now area)) ⌝ }
     ensures series { λ r. ⌜ ((s : Series) → firstOf t (now (square .entry)) (now (nexts .entry)) (set .bits) ≡ some s
         → Makes (automatonIn t (now (nexts .entry))) (t .start) (now (outputs .entry)) s r) ⌝ }
     ensures area { λ _. ⌜ SentInto (firstOf t (now (square .entry)) (now (nexts .entry)) (set .bits))
@@ -85,7 +85,7 @@ fn harm_of(
     let k = t.symbols;
     let start = t.start;
     let mut totals = totals::unused();
-    totals::enter_totals(&mut totals, costs, order, depths, nexts, n, k, count, least);
+    totals::enter_totals(&mut totals, costs, order, depths, nexts, n, k, found, least);
     let approach = totals::write_before(&totals, costs, nexts, n, k, start, area);
     let state = approach.state;
     let count = approach.count;

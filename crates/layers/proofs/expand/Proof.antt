@@ -11,7 +11,8 @@ use Rattle.layers.proofs.expand.Statement.{statement}
 use Rattle.layers.proofs.expand.Tie as tie
 
 abbrev Inv-loop : tie.InvT-loop
-Inv-loop order₀ depths₀ nexts n k p found depth count₀ a₀ order depths count a = Expanding (automatonOf n k nexts) depth p found count a order₀ order depths₀ depths
+Inv-loop order₀ depths₀ nexts n k p found depth count₀ a₀ order depths count a =
+    Expanding (automatonOf n k nexts) depth p found count a order₀ order depths₀ depths
 
 abbrev μ-loop : tie.MeasureT-loop
 μ-loop order₀ depths₀ nexts n k p found depth count₀ a₀ order depths count a = k - a

@@ -57,6 +57,9 @@ element-copy-out-depth c = (let s = state-in (c .before) in omega (arith, s .1, 
 cast-depth : tie.Need-cast-depth Inv-loop μ-loop
 cast-depth c = omega (arith, state-in (c .before .before) .3)
 
+add-if1 : tie.Need-add-if1 Inv-loop μ-loop
+add-if1 c = omega (arith, state-in (c .before .before) .3)
+
 returns : tie.Need-returns Inv-loop μ-loop
 returns c =
     let start = c .before .before .before .before .before .before .before in
@@ -64,7 +67,7 @@ returns c =
     let inv = c .before .before .before .before .loop .inv .1 in (
       inv,
       costed-stops (automatonOf (a .n) (a .k) (a .nexts .now)) (a .square .now) (a .set .bits) (start .pre .0 .states-most) (start .pre .1)
-          (c .before .before .before .loop-test .taken) refl refl inv (c .if1 .taken),
+          (c .before .before .before .loop-test .taken) refl refl inv (omega (arith, c .if1 .taken)),
     )
 
 cost-within-requires : tie.Need-cost-within-requires Inv-loop μ-loop
@@ -101,6 +104,6 @@ returns-2 c = (c .before .loop .inv .1, costed-all (c .before .loop .inv .0) (c 
 pub enter-costs-spec : {M : Type 1} → statement M
 enter-costs-spec =
     tie.close (tie.spec
-    Inv-loop μ-loop loop-holds element-copy-out-p cast-p element-copy-out-depth cast-depth returns (λ c. search needs)
+    Inv-loop μ-loop loop-holds element-copy-out-p cast-p element-copy-out-depth cast-depth add-if1 returns (λ c. search needs)
     cost-within-requires cast-costs mul-costs element-write-costs add-least-of (λ c κs. search needs)
     (λ c. search needs) (λ c. search needs) loop-again returns-2)

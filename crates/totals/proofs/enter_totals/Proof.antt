@@ -68,7 +68,9 @@ sub-left : tie.Need-sub-left Inv-loop μ-loop
 sub-left c = omega (arith, place (c .before .before .before) .4)
 
 leads-on-requires : tie.Need-leads-on-requires Inv-loop μ-loop
-leads-on-requires c κs = (let s = place (c .before .before .before .before) in (c .before .before .before .before .before .before .before .pre .0, s .2, omega (arith, s .4)))
+leads-on-requires c κs =
+    let s = place (c .before .before .before .before) in
+    (c .before .before .before .before .before .before .before .pre .0, s .2, omega (arith, s .4))
 
 cast-totals : tie.Need-cast-totals Inv-loop μ-loop
 cast-totals c = (let s = place (c .before .before .before .before .before .before) in omega (arith, s .5))
@@ -84,7 +86,8 @@ loop-again c =
     let pre = c .before .before .before .before .before .before .before .before .before .pre in
     let s = place (c .before .before .before .before .before .before) in (
       omega (arith, c .before .before .before .before .before .before .before .loop .inv .0),
-      way-on _ (s .3) (pre .1) (s .0) refl (omega (arith, s .4)) (s .5) (behind (c .before .before .before .before .before .before)) (c .before .leads-on .ensures .0 (c .if1 .taken)) (pre .2),
+      way-on _ (s .3) (pre .1) (s .0) refl (omega (arith, s .4)) (s .5) (behind (c .before .before .before .before .before .before))
+          (c .before .leads-on .ensures .0 (c .if1 .taken)) (pre .2),
     )
 
 loop-again-2 : tie.Need-loop-again-2 Inv-loop μ-loop
@@ -92,7 +95,8 @@ loop-again-2 c =
     let pre = c .before .before .before .before .before .before .before .before .before .pre in
     let s = place (c .before .before .before .before .before .before) in (
       omega (arith, c .before .before .before .before .before .before .before .loop .inv .0),
-      way-not _ (s .3) (pre .1) (s .0) refl (omega (arith, s .4)) (s .5) (behind (c .before .before .before .before .before .before)) (c .before .leads-on .ensures .1 (c .if1 .left)),
+      way-not _ (s .3) (pre .1) (s .0) refl (omega (arith, s .4)) (s .5) (behind (c .before .before .before .before .before .before))
+          (c .before .leads-on .ensures .1 (c .if1 .left)),
     )
 
 returns : tie.Need-returns Inv-loop μ-loop

@@ -23,7 +23,9 @@ loop-holds c =
     rw (c .wide .ensures) (walk-begins (automatonOf (a .n) (a .k) (a .nexts .now)) (a .totals .now) (a .costs .now) (pre .2) (pre .3))
 
 -- the fault is not here
-not-here : (c : tie.Then1 Inv-loop μ-loop) → getD (c .before .before .before .before .before .before .before .before .args .costs .now) (c .before .before .before .loop .p) 0 ≡ c .before .before .before .loop .left → ⊥
+not-here : (c : tie.Then1 Inv-loop μ-loop)
+    → (let at = c .before .before .before .loop in
+    getD (c .before .before .before .before .before .before .before .before .args .costs .now) (at .p) 0 ≡ at .left → ⊥)
 not-here c e = c .if1 .taken (c .before .wide2 .ensures ∙ e)
 
 sub-left : tie.Need-sub-left Inv-loop μ-loop
@@ -47,13 +49,15 @@ successor-requires c κs =
     (pre .0, inv .inside, walk-symbol inv (pre .1) (not-here (c .before)) (c .onward-by .ensures))
 
 loop-less : tie.Need-loop-less Inv-loop μ-loop
-loop-less c = omega (arith, walk-left (c .before .before .before .before .before .loop .inv) (c .before .before .before .before .before .before .before .before .before .before .pre .1) (not-here (c .before .before)))
+loop-less c =
+    let pre = c .before .before .before .before .before .before .before .before .before .before .pre in
+    omega (arith, walk-left (c .before .before .before .before .before .loop .inv) (pre .1) (not-here (c .before .before)))
 
 loop-again : tie.Need-loop-again Inv-loop μ-loop
 loop-again c =
     let pre = c .before .before .before .before .before .before .before .before .before .before .pre in
-    walk-goes-on (c .before .before .before .before .before .loop .inv) (pre .1) (not-here (c .before .before)) (c .before .onward-by .ensures) (next-of-rows (pre .0))
-    (c .successor .ensures .0)
+    walk-goes-on (c .before .before .before .before .before .loop .inv) (pre .1) (not-here (c .before .before)) (c .before .onward-by .ensures)
+    (next-of-rows (pre .0)) (c .successor .ensures .0)
 
 returns : tie.Need-returns Inv-loop μ-loop
 returns c =

@@ -13,13 +13,17 @@ use Rattle.witness.proofs.find_first.Statement.{statement}
 use Rattle.witness.proofs.find_first.Tie as tie
 
 enter-costs-requires : tie.Need-enter-costs-requires
-enter-costs-requires c κs = (let p = c .before .before .before .before .before .before .before .pre in (p .1 .rows, p .3 .queue, p .1 .squared .size, p .2, c .before .unused .ensures))
+enter-costs-requires c κs =
+    let p = c .before .before .before .before .before .before .before .pre in
+    (p .1 .rows, p .3 .queue, p .1 .squared .size, p .2, c .before .unused .ensures)
 
 seen : (c : tie.After-enter-costs)
     → (let a = c .before .before .before .before .before .before .before .before .args in
     Searched (automatonIn (a .t) (a .nexts .now)) (a .t .start) (a .set .bits) (a .square .now) (a .order .now) (a .depths .now)
     (c .enter-costs .last .0) (a .count) (c .enter-costs .result))
-seen c = (let e = c .enter-costs .ensures in record { explored = c .before .before .before .before .before .before .before .before .pre .3; costed = e .0; enough = e .1 })
+seen c =
+    let e = c .enter-costs .ensures in
+    record { explored = c .before .before .before .before .before .before .before .before .pre .3; costed = e .0; enough = e .1 }
 
 returns : tie.Need-returns
 returns c =

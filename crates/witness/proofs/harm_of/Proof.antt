@@ -90,13 +90,18 @@ finds : (c : tie.After-fault-with)
     let a = e .before .before .before .before .before .before .before .args in
     Finds (automatonIn (a .t) (a .nexts .now)) (apartAtOnce (a .square .now)) (a .set .bits) (a .square .now) (a .costs .now) (e .enter-totals .last .0)
     (a .t .start))
-finds c = (let e = c .before .before .before .before .before .before .before in ready-finds (e .before .before .before .before .before .before .before .pre) (way e))
+finds c =
+    let e = c .before .before .before .before .before .before .before in
+    ready-finds (e .before .before .before .before .before .before .before .pre) (way e)
 
 -- the total fits the area
 fits : (c : tie.After-fault-with)
     → (let e = c .before .before .before .before .before .before .before in
     let a = e .before .before .before .before .before .before .before .args in getD (e .enter-totals .last .0) (a .t .start) 0 ≤ length (a .area .now))
-fits c = (let e = c .before .before .before .before .before .before .before in let r = e .before .before .before .before .before .before .before .pre in rw (ready-left r (way e)) (r .fits))
+fits c =
+    let e = c .before .before .before .before .before .before .before in
+    let r = e .before .before .before .before .before .before .before .pre in
+    rw (ready-left r (way e)) (r .fits)
 
 write-symbols-requires : tie.Need-write-symbols-requires
 write-symbols-requires c κs =
@@ -110,12 +115,16 @@ write-symbols-requires c κs =
 after-requires : tie.Need-after-requires
 after-requires c κs =
     let f = c .before .before .before .before in
-    (f .before .before .before .before .before .before .before .before .before .before .before .before .before .before .pre .posed .rows, (state-in (f .before .before .before .before) .0, f .fault-with .ensures .1 .sent-in))
+    let w = f .before .before .before .before in
+    let r = w .before .before .before .before .before .before .before .before .before .before .pre in
+    (r .posed .rows, (state-in w .0, f .fault-with .ensures .1 .sent-in))
 
 after-requires-2 : tie.Need-after-requires-2
 after-requires-2 c κs =
     let f = c .before .before .before .before .before in
-    (f .before .before .before .before .before .before .before .before .before .before .before .before .before .before .pre .posed .rows, (state-in (f .before .before .before .before) .0, f .fault-with .ensures .1 .received-in))
+    let w = f .before .before .before .before in
+    let r = w .before .before .before .before .before .before .before .before .before .before .pre in
+    (r .posed .rows, (state-in w .0, f .fault-with .ensures .1 .received-in))
 
 add-at : tie.Need-add-at
 add-at c =
@@ -134,17 +143,26 @@ write-apart-requires c κs =
       p .1,
       q .1,
       made-apart _ (finds f) (chosen f) (p .0) (q .0),
-      made-fits-on _ (finds f) (chosen f) (s .args .area .now) (f .before .before .before .before .write-before .ensures .0) (c .before .before .before .before .before .before .write-symbols .ensures) (p .0) (q .0) (fits f),
+      made-fits-on _ (finds f) (chosen f) (s .args .area .now) (f .before .before .before .before .write-before .ensures .0)
+          (c .before .before .before .before .before .before .write-symbols .ensures) (p .0) (q .0) (fits f),
     )
 
 shared-slice-read-t42 : tie.Need-shared-slice-read-t42
-shared-slice-read-t42 c = (let w = c .before .before .before in omega (arith, w .write-apart .ensures .1 .0 .1, w .before .before .before .before .before .before .before .before .before .before .before .before .before .before .before .before .before .before .before .before .before .before .before .pre .posed .outputs))
+shared-slice-read-t42 c =
+    let w = c .before .before .before in
+    let f = w .before .before .before .before .before .before .before .before .before in
+    let r = f .before .before .before .before .before .before .before .before .before .before .before .before .before .before .pre in
+    omega (arith, w .write-apart .ensures .1 .0 .1, r .posed .outputs)
 
 cast-t36 : tie.Need-cast-t36
 cast-t36 c = omega (arith, c .shared-slice-known4 .given (c .before .before .before .write-apart .result .sent))
 
 shared-slice-read-t44 : tie.Need-shared-slice-read-t44
-shared-slice-read-t44 c = (let w = c .before .before .before .before in omega (arith, w .write-apart .ensures .1 .1 .1, w .before .before .before .before .before .before .before .before .before .before .before .before .before .before .before .before .before .before .before .before .before .before .before .pre .posed .outputs))
+shared-slice-read-t44 c =
+    let w = c .before .before .before .before in
+    let f = w .before .before .before .before .before .before .before .before .before in
+    let r = f .before .before .before .before .before .before .before .before .before .before .before .before .before .before .pre in
+    omega (arith, w .write-apart .ensures .1 .1 .1, r .posed .outputs)
 
 cast-t32 : tie.Need-cast-t32
 cast-t32 c = omega (arith, c .shared-slice-known5 .given (c .before .before .before .before .write-apart .result .received))
@@ -153,7 +171,9 @@ same-length : tie.Need-same-length
 same-length c =
     let w = c .before .before .before .before in
     let f = w .before .before .before .before .before .before .before .before .before in
-    rw (w .write-apart .ensures .0, length-sets, w .before .before .before .before .before .before .before .write-symbols .ensures, length-sets, f .before .before .before .before .write-before .ensures .0, length-sets)
+    let way = f .before .before .before .before .write-before .ensures .0 in
+    let fault = w .before .before .before .before .before .before .before .write-symbols .ensures in
+    rw (w .write-apart .ensures .0, length-sets, fault, length-sets, way, length-sets)
 
 returns : tie.Need-returns
 returns c =
@@ -163,8 +183,10 @@ returns c =
     let p = w .before .before .before .before .after .ensures .0 in
     let q = w .before .before .before .after2 .ensures .0 in
     let e = w .write-apart .ensures in (
-      λ z i. made-makes _ (finds f) (chosen f) (s .args .outputs .now) (ready-left (s .pre) (way (f .before .before .before .before .before .before .before))) i p q (e .1 .0 .0) (e .1 .1 .0),
-      λ z i. made-written _ (finds f) (chosen f) (s .args .area .now) i (f .before .before .before .before .write-before .ensures .0) (w .before .before .before .before .before .before .before .write-symbols .ensures) p q (e .0),
+      λ z i. made-makes _ (finds f) (chosen f) (s .args .outputs .now) (ready-left (s .pre) (way (f .before .before .before .before .before .before .before)))
+          i p q (e .1 .0 .0) (e .1 .1 .0),
+      λ z i. made-written _ (finds f) (chosen f) (s .args .area .now) i (f .before .before .before .before .write-before .ensures .0)
+          (w .before .before .before .before .before .before .before .write-symbols .ensures) p q (e .0),
     )
 
 pub harm-of-spec : {M : Type 1} → statement M

@@ -21,14 +21,18 @@ enter-distances-requires c κs =
     (p .1, p .0 .rows, sym (filled-count _ _ _ (c .before .before .before .write-readings .ensures)))
 
 explore-requires : tie.Need-explore-requires
-explore-requires c κs = (let p = c .before .before .before .before .before .before .before .before .before .before .before .before .before .before .before .before .pre .0 in (p .rows, p .well-formed .start-in, c .before .before .before .blank .ensures, c .before .before .blank2 .ensures))
+explore-requires c κs =
+    let c₈ = c .before .before .before .before .before .before .before .before in
+    let p = c₈ .before .before .before .before .before .before .before .before .pre .0 in
+    (p .rows, p .well-formed .start-in, c .before .before .before .blank .ensures, c .before .before .blank2 .ensures)
 
 find-first-requires : tie.Need-find-first-requires
 find-first-requires c κs =
-    let s = c .before .before .before .before .before .before .before .before .before .before .before .before .before .before .before .before .before .before .before .before .before in
-    let w = c .before .before .before .before .before .before .before .before .before .before .before .before .before .before .before .write-readings in
+    let c₁₁ = c .before .before .before .before .before .before .before .before .before .before .before in
+    let s = c₁₁ .before .before .before .before .before .before .before .before .before .before in
+    let w = c₁₁ .before .before .before .before .write-readings in
     let p = s .pre .0 in
-    let square = c .before .before .before .before .before .before .before .before .before .before .before .enter-distances in (
+    let square = c₁₁ .enter-distances in (
       p,
       table-posed p (p .rows) (s .args .test) (sym (filled-count _ _ _ (w .ensures))) (square .ensures),
       suited (automatonIn (s .args .t) (s .args .nexts .now)) (s .args .test) (take (s .args .t .states) (w .last .1 .1 .1 .1 .0)) (square .last .0)
@@ -38,14 +42,15 @@ find-first-requires c κs =
 
 returns : tie.Need-returns
 returns c =
-    let s = c .before .before .before .before .before .before .before .before .before .before .before .before .before .before .before .before .before .before .before .before .before .before .before .before in
+    let c₁₄ = c .before .before .before .before .before .before .before .before .before .before .before .before .before .before in
+    let s = c₁₄ .before .before .before .before .before .before .before .before .before .before in
     let a = s .args in
     let p = s .pre .0 in
-    let w = c .before .before .before .before .before .before .before .before .before .before .before .before .before .before .before .before .before .before .write-readings in
+    let w = c₁₄ .before .before .before .before .write-readings in
     let m = monitorIn (a .t) (a .marks) (a .nexts) in
     let outs = take (a .t .states) (w .last .1 .1 .1 .1 .0) in
     let read = filled-read (a .t .states) (reading m (a .domain)) _ (w .ensures) in
-    let square = c .before .before .before .before .before .before .before .before .before .before .before .before .before .before .enter-distances in
+    let square = c₁₄ .enter-distances in
     let e = c .before .before .find-first .ensures in (
       table-answer p (a .test) (a .domain) (a .set .bits) outs (square .last .0) read (square .ensures) (length (a .area .now)) (e .0),
       table-area p (a .test) (a .domain) (a .set .bits) outs (square .last .0) read (square .ensures)
