@@ -1,22 +1,22 @@
 -- Fewer looks are enough where readings that differ are the test: not being told apart by any trace up to a length is an equivalence.
-use mathlib.Core.Path.{_≡_, refl, sym, ap, ap₂, _∙_, subst}
-use mathlib.Core.Bool.{Bool, true, false, not}
-use mathlib.Core.List.{List, [], _∷_}
+use mathlib.Core.Path.{_≡_, refl, sym, ap, subst}
+use mathlib.Core.Bool.{true, not}
+use mathlib.Core.List.{List}
 use mathlib.Core.Logic.{_⊎_, inl, inr, ⊎-elim}
-use Prim.Native.Nat.{ℕ, zero, suc, _+_, _≤_, _<_, min, zero-le}
+use Prim.Native.Nat.{ℕ, zero, suc, _≤_, _<_, min, zero-le}
 use native.Mathlib.Nat.{le-refl, le-antisymm}
 use native.Mathlib.Omega.{arith}
 use lib.Dec.{eqb}
 use lib.ListN.{length, getD}
-use borrow.Author.Tests.{eqb-true, eqb-false, ne-eqb, not-true}
+use borrow.Author.Tests.{eqb-false, ne-eqb, not-true}
 use Rattle.theory.specs.Automaton.{Automaton, Closed, run}
 use Rattle.theory.specs.Pairs.{Tells}
-use Rattle.theory.specs.Faults.{FaultStep, kinds, stepOf, seconds, holds, steps}
+use Rattle.theory.specs.Faults.{FaultStep, kinds, stepOf, seconds}
 use Rattle.theory.proofs.Below.{lt-or-le, same-or-not}
 use Rattle.theory.proofs.Faults.{steps-held, held-steps}
 use Rattle.square.specs.declared.Test.{Test}
 use Rattle.square.specs.declared.Test.the-variants.{Differ, Misread}
-use Rattle.square.specs.Square.{never, entry, Noted, Squared, passing}
+use Rattle.square.specs.Square.{never, entry, Squared, passing}
 use Rattle.square.proofs.Path.{noted-least}
 use Rattle.faults.specs.Steps.{plus, costOf}
 use Rattle.faults.specs.Looks.{Upto, OfFirst, OfKind, OfHeld, OfSet, firsts, secondFrom, Ultrametric, Suited}

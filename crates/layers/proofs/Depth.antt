@@ -1,11 +1,11 @@
 -- The depth of a state is the fewest symbols that lead to it.
-use mathlib.Core.Path.{_≡_, sym, subst}
+use mathlib.Core.Path.{_≡_, subst}
 use mathlib.Core.List.{List, [], _∷_}
-use Prim.Native.Nat.{ℕ, _+_, _≤_, _<_}
+use Prim.Native.Nat.{ℕ, _+_, _<_}
 use native.Mathlib.Omega.{arith}
 use lib.ListN.{length, getD}
 use Rattle.theory.specs.Automaton.{Automaton, Closed, Trace, run}
-use Rattle.layers.specs.Layers.{far, By, Explored}
+use Rattle.layers.specs.Layers.{By, Explored}
 
 module _ {g : Automaton} {start c : ℕ} {order depths : List ℕ} (closed : Closed g) (e : Explored g start c order depths) where
   -- a symbol leads at most one deeper

@@ -1,6 +1,5 @@
 // States by layers: breadth first from the start, the nearest first.
 use theory::STATE_LIMIT;
-ghost use mathlib.Core.Path.{_≡_};
 ghost use Prim.Native.Nat.{ℕ, _+_, _<_};
 ghost use lib.ListN.{getD};
 ghost use Rattle.theory.specs.Monitor.{stateLimit};

@@ -1,5 +1,5 @@
 -- The costs and the least total as the search enters them, state by state.
-use mathlib.Core.Path.{_≡_, refl, sym, ap, subst, _∙_}
+use mathlib.Core.Path.{_≡_, sym, ap, subst, _∙_}
 use mathlib.Core.List.{List}
 use mathlib.Core.Logic.{_⊎_, inl, inr, ⊎-elim}
 use Prim.Native.Nat.{ℕ, _+_, _-_, _≤_, _<_, min}
@@ -9,15 +9,15 @@ use lib.ListN.{length, getD, set, length-set}
 use lib.Seq.{getD-set-same, getD-set-other}
 use Rattle.theory.specs.Automaton.{Automaton, run}
 use Rattle.theory.specs.Monitor.{stateLimit}
-use Rattle.theory.specs.Faults.{FaultStep, steps}
+use Rattle.theory.specs.Faults.{FaultStep}
 use Rattle.theory.proofs.Below.{lt-or-le, same-or-not}
 use Rattle.theory.proofs.Faults.{steps-good}
 use Rattle.square.specs.Square.{never, entry}
 use Rattle.faults.specs.Steps.{plus, costOf, Attained, Cheapest}
 use Rattle.faults.specs.Looks.{OfSet}
-use Rattle.layers.specs.Layers.{far, depthAt, Queue}
+use Rattle.layers.specs.Layers.{far, Queue}
 use Rattle.layers.proofs.Queue.{listed-found}
-use Rattle.totals.specs.Totals.{Unused, costAt, Shallow, Makes, Costed, Enough}
+use Rattle.totals.specs.Totals.{Unused, Makes, Costed, Enough}
 
 pub costed-none : (g : Automaton) (square : List ℕ) (bits : ℕ) {order depths costs : List ℕ} → g .states ≤ stateLimit → Unused costs
     → Costed g square (OfSet bits (g .symbols)) order depths 0 costs never

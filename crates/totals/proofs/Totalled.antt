@@ -1,12 +1,10 @@
 -- What is left of the total at the states on the way, entered from the deepest state visited back to the start.
-use mathlib.Core.Path.{_≡_, refl, sym, ap, subst, _∙_}
-use mathlib.Core.Bool.{true}
+use mathlib.Core.Path.{_≡_, sym, ap, subst, _∙_}
 use mathlib.Core.List.{List}
 use mathlib.Core.Logic.{_⊎_, inl, inr, ⊎-elim}
-use Prim.Native.Nat.{ℕ, suc, _+_, _-_, _≤_, _<_, zero-le}
+use Prim.Native.Nat.{ℕ, _+_, _-_, _≤_, _<_, zero-le}
 use native.Mathlib.Omega.{arith}
-use lib.Dec.{eqb}
-use lib.ListN.{length, getD, set, length-set}
+use lib.ListN.{getD, set, length-set}
 use lib.Seq.{getD-set-same, getD-set-other}
 use borrow.Author.Tests.{eq-eqb, eqb-true}
 use Rattle.theory.specs.Automaton.{Automaton}
@@ -14,7 +12,7 @@ use Rattle.theory.specs.Monitor.{stateLimit}
 use Rattle.theory.proofs.Below.{clash, lt-or-le, same-or-not, first-below, first-here}
 use Rattle.square.specs.Square.{never}
 use Rattle.layers.specs.Layers.{depthAt, Queue}
-use Rattle.totals.specs.Totals.{Unused, Shallow, onward, LeadsOn, Leading, OnTheWay}
+use Rattle.totals.specs.Totals.{Unused, onward, LeadsOn, OnTheWay}
 use Rattle.totals.proofs.Walk.{leadsToTotal}
 
 module _ (g : Automaton) (v : List ℕ) where

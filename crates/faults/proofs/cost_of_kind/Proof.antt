@@ -1,6 +1,6 @@
 -- `cost_of_kind` meets its contract: the least cost of the first symbols passed, and those looked at are enough.
 use mathlib.Core.Path.{sym}
-use Prim.Native.Nat.{ℕ, _-_, _≤_}
+use Prim.Native.Nat.{_-_, _≤_}
 use native.Mathlib.Nat.{lt-of-lt-of-le, not-suc-le-zero}
 use native.Mathlib.Omega.{arith}
 use borrow.Author.Needs.{needs}

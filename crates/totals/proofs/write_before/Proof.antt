@@ -1,6 +1,5 @@
 -- `write_before` meets its contract: at each turn the part written and the part to come give the way.
 use mathlib.Core.Path.{_≡_, sym, _∙_}
-use Prim.Native.Nat.{ℕ}
 use native.Mathlib.Omega.{arith}
 use borrow.Author.Needs.{needs}
 use lib.ListN.{getD}
