@@ -279,8 +279,13 @@ exploring-begins g {start} order depths few ls lo ld none = record {
     grown : Grown (g .states) 0 0 1 order (set order 0 start) depths (set depths start 0)
     grown = entered-grown few empty ls (unfound start ls) (le-refl 0) (λ i l. absurd (not-suc-le-zero l))
 
-module _ (g : Automaton) (few : g .states ≤ stateLimit) (closed : Closed g) {start c head p : ℕ} {order depths : List ℕ} (ls : start < g .states)
-    (h : Exploring g start c head order depths) (l : head < c) (ep : p ≡ getD order head 0) where
+module _ (g : Automaton) (few : g .states ≤ stateLimit) {start c head : ℕ} {order depths : List ℕ} (h : Exploring g start c head order depths)
+    (l : head < c) where
+  pub exploring-fewer : head < g .states
+  exploring-fewer = (let s = queue-few few (h .queue) in omega (arith, s, l))
+
+module _ (g : Automaton) (few : g .states ≤ stateLimit) {start c head p : ℕ} {order depths : List ℕ} (h : Exploring g start c head order depths)
+    (l : head < c) (ep : p ≡ getD order head 0) where
   pub exploring-state : p < g .states
   exploring-state = rw ep (h .queue .inside head l)
 
@@ -290,12 +295,10 @@ module _ (g : Automaton) (few : g .states ≤ stateLimit) (closed : Closed g) {s
   pub exploring-deep : NoDeeper c order depths (getD depths p 0 + 1)
   exploring-deep = rw ep (h .deep l)
 
-  pub exploring-fewer : head < g .states
-  exploring-fewer = (let s = queue-few few (h .queue) in omega (arith, s, l))
-
-  pub exploring-goes-on : {e : ℕ} {order₁ depths₁ : List ℕ} → Grown (g .states) (getD depths p 0 + 1) c e order order₁ depths depths₁
+  pub exploring-goes-on : {e : ℕ} {order₁ depths₁ : List ℕ} → Closed g → start < g .states
+      → Grown (g .states) (getD depths p 0 + 1) c e order order₁ depths depths₁
       → Onward g depths₁ (getD depths p 0 + 1) p (g .symbols) → Reached g start depths₁ → Exploring g start e (head + 1) order₁ depths₁
-  exploring-goes-on {e} {order₁} {depths₁} grown onward reached = record {
+  exploring-goes-on {e} {order₁} {depths₁} closed ls grown onward reached = record {
     head-in = omega (arith, l, grown .more);
     queue = grown .queue;
     reached = reached;

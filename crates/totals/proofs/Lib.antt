@@ -1,3 +1,3 @@
 pub mod Walk
 pub mod Costed
-pub mod Totalled
+pub mod Way

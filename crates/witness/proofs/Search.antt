@@ -32,7 +32,7 @@ use Rattle.layers.proofs.Queue.{led-start, led-on}
 use Rattle.layers.proofs.Depth.{explored-by}
 use Rattle.totals.specs.declared.Least.{Least}
 use Rattle.totals.specs.Totals.{onward, approach, LeadsOn, OnTheWay}
-use Rattle.totals.proofs.Totalled.{onward-at, onward-leads}
+use Rattle.totals.proofs.Way.{onward-at, onward-leads}
 use Rattle.witness.specs.Search.{Searched}
 
 plus-at-most : (l e : ℕ) → plus l e ≤ l + e

@@ -10,7 +10,7 @@ use Rattle.square.specs.Square.{never}
 use Rattle.layers.specs.Layers.{depthAt}
 use Rattle.layers.proofs.Queue.{queue-few}
 use Rattle.totals.specs.Totals.{OnTheWay}
-use Rattle.totals.proofs.Totalled.{way-none, way-not, way-on}
+use Rattle.totals.proofs.Way.{way-none, way-not, way-on}
 use Rattle.totals.proofs.enter_totals.Statement.{statement}
 use Rattle.totals.proofs.enter_totals.Tie as tie
 
