@@ -14,7 +14,7 @@ use Rattle.theory.specs.Pairs.{told}
 use Rattle.theory.proofs.Below.{clash, not-clash, lt-or-le, same-or-not, or-cases, and-left, and-right}
 use Rattle.state_set.specs.declared.StateSet.{StateSet}
 use Rattle.state_set.specs.Member.{member, Exactly, setAt, Put}
-use Rattle.opening.specs.Sets.{hasMark}
+use Rattle.opening.specs.Marks.{hasMark}
 use Rattle.square.specs.declared.Test.the-variants.{Differ}
 use Rattle.square.specs.Square.{never, place, entry, Blank, Squared, Stage, passing}
 use Rattle.square.proofs.Stage.{told-by, stage-entry, stage-told, stage-near, stage-next, stage-last}
