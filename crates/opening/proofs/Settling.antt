@@ -14,7 +14,7 @@ use Rattle.theory.specs.Below.{every, count, values}
 use Rattle.theory.specs.Automaton.{Automaton, inevitableWithin, inevitable}
 use Rattle.theory.specs.Monitor.{Monitor, WellFormed, marked, stateLimit}
 use Rattle.theory.specs.Settled.{settledMark}
-use Rattle.theory.proofs.Below.{clash, or-cases, and-left, and-right, and-both, same-or-not, every-at, every-all, count-le, count-more}
+use Rattle.theory.proofs.Below.{or-cases, and-left, and-right, same-or-not, every-at, every-all, count-le, count-more}
 use Rattle.theory.proofs.Values.{filled, length-filled, getD-filled, length-values, values-front, values-same}
 use Rattle.theory.proofs.Inevitable.{inevitable-enough}
 use Rattle.theory.proofs.Settled.{sure-here, sure-before, sure-one, sure-mark, mark-sure}

@@ -155,10 +155,6 @@ count-more (suc n) f g h x l e t =
     there false true i m = omega arith
     there false false i m = m
 
--- a wider test of the same count passes nothing new
-pub count-full : (n : ℕ) (f g : ℕ → Bool) → ((i : ℕ) → i < n → f i ≡ true → g i ≡ true) → count n g ≡ count n f → (i : ℕ) → i < n → g i ≡ f i
-count-full n f g h e i l = both-ways (λ t. is-true (λ p. omega (arith, count-more n f g h i l p t, e))) (h i l)
-
 -- numbers that fail the test do not count
 pub count-short : (m n : ℕ) (f : ℕ → Bool) → m ≤ n → ((i : ℕ) → m ≤ i → i < n → f i ≡ false) → count n f ≡ count m f
 unfolding count

@@ -55,16 +55,6 @@ module _ (g : Automaton) (f : ℕ → Bool) where
   inevitable-stays c r s p l =
       ap (λ (b : Bool). f p || b) (every-same (g .symbols) (after (suc r) p) (after r p) (λ a h. s (g .next p a) (c .next-in p a l h)))
 
-  -- only the states matter: tests that agree on them are inevitable alike
-  pub inevitable-same : Closed g → (h : ℕ → Bool) → ((p : ℕ) → p < g .states → f p ≡ h p)
-      → (r q : ℕ) → q < g .states → inevitableWithin g f r q ≡ inevitableWithin g h r q
-  unfolding inevitableWithin
-  inevitable-same c h e zero q l = e q l
-  inevitable-same c h e (suc r) q l =
-      rw (e q l)
-      (ap (λ (b : Bool). h q || b)
-      (every-same (g .symbols) (after r q) (λ a. inevitableWithin g h r (g .next q a)) (λ a i. inevitable-same c h e r (g .next q a) (c .next-in q a l i))))
-
   -- within any number of symbols, and so within n
   pub inevitable-enough : Closed g → (r q : ℕ) → q < g .states → inevitableWithin g f r q ≡ true → inevitable g f q ≡ true
   inevitable-enough c r q l e =
