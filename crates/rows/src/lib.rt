@@ -1,5 +1,5 @@
-// What a round of the search adds to the rows of the square, with the sets of states beside them: the predecessors of
-// the states, what leads into a front, and the pairs that are new in a row.
+// What a round of the search by pairs adds to the rows of the square, with the sets of states beside them: the
+// predecessors of the states, what leads into a front, and the pairs that are new in a row.
 use state_set::StateSet;
 use theory::STATE_LIMIT;
 use theory::SYMBOL_LIMIT;

@@ -1,4 +1,5 @@
-// From what a fault costs at each state to the fewest symbols sent from each state, the fault still to come.
+// The least total of a fault set: the depth of a state and what the cheapest fault costs there. And the symbols that lead
+// to the fault which makes it.
 use faults::FaultSet;
 use square::NEVER;
 use square::Test;
