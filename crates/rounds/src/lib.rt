@@ -1,7 +1,7 @@
 // A round of the search by pairs: from the pairs at distance r to those at r + 1.
 //
-// A round goes by blocks of the square: rows of part v and columns of part w, a word for each row. A table of up to 64 states is one
-// block: of its predecessors, alike and next states only the lower words are looked at.
+// A round goes by blocks of the square: rows of part v and columns of part w, a word for each row. A table of up to 64
+// states is one block: of its predecessors, alike and next states only the lower words are looked at.
 use state_set::StateSet;
 use state_set::WORD;
 use theory::SYMBOL_LIMIT;
