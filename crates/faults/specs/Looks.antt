@@ -9,7 +9,7 @@ use Rattle.square.specs.declared.Test.{Test}
 use Rattle.square.specs.declared.Test.the-variants.{Differ, Misread}
 use Rattle.square.specs.Square.{entry}
 
--- those of 0, 1, .. n - 1
+-- the fault steps that are meant for 0, 1, .. n - 1
 abbrev pub Upto : (ℕ → FaultStep → Type 0) → ℕ → FaultStep → Type 0
 Upto These n s = (i : ℕ) × (i < n) × These i s
 
@@ -50,7 +50,8 @@ secondFrom Differ (suc (suc zero)) a = 0
 secondFrom Differ (suc (suc (suc c))) a = a
 secondFrom (Misread v) c a = 0
 
--- what makes them enough: the order of a pair does not matter, and two states are no nearer than by way of a third
+-- what makes them enough: the order of a pair does not matter, and what tells two states apart tells one of them from
+-- any third
 pub record Ultrametric (n : ℕ) (square : List ℕ) : Type 0 where
   pub symmetric : (p q : ℕ) → p < n → q < n → entry square p q ≡ entry square q p
   pub through : (p q r : ℕ) → p < n → q < n → r < n → min (entry square p q) (entry square q r) ≤ entry square p r

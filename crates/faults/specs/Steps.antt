@@ -55,7 +55,7 @@ pub record Attained (g : Automaton) (square : List ℕ) (p : ℕ) (These : Fault
   pub of : These step
   pub costs : costOf g square p step ≡ cost
 
--- of these fault steps none costs less but above the bound, and, where the cost is not never, some step has it
+-- none of these fault steps costs less, unless that is above the bound, and, where the cost is not never, one has it
 pub record Cheapest (g : Automaton) (square : List ℕ) (p : ℕ) (These : FaultStep → Type 0) (bound cost : ℕ)
     : Type 0 where
   pub most : cost ≤ never

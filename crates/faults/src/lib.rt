@@ -321,7 +321,8 @@ fn cost_of(square: &[u16], nexts: &[u8], n: usize, k: usize, p: usize, fault: Fa
 }
 
 // How many first symbols of a kind are looked at for its cheapest fault. Where readings that differ are the test,
-// corruption of symbol 0 is enough: the least distance among the successors of a state is found from one of them.
+// corruption of symbol 0 is enough: the least distance between two successors of a state is also that of its successor
+// by symbol 0 from another one.
 fn firsts_of(test: Test, kind: Kind, k: usize) -> usize
     ensures { λ r. ⌜ r ≡ firsts test (rankOf kind) k ⌝ }
 {
@@ -442,8 +443,8 @@ fn least_with(
     least
 }
 
-// What the cheapest fault of the set costs at p. Where that is above the bound, any number above it or NEVER. Each call
-// names its kind, so that the compiler makes the loops of each kind by themselves.
+// What the cheapest fault of the set costs at p. Where that is above the bound, what some fault of the set costs, or
+// NEVER. Each call names its kind, so that the compiler makes the loops of each kind by themselves.
 pub fn cost_within(
     square: &[u16],
     nexts: &[u8],

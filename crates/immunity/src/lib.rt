@@ -132,7 +132,7 @@ fn column_of(
     }
 }
 
-// The columns of a table: each fault alone, in the written order, all from one square.
+// The columns of a table: each fault alone, in the written order, all from one square and the same layers.
 fn columns_of(
     marks: &[u8],
     square: &[u16],

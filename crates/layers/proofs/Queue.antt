@@ -250,7 +250,6 @@ module _ (g : Automaton) (few : g .states ≤ stateLimit) {p before d : ℕ} {or
 
 -- the states before `head` are expanded, and none is more than one deeper than the next
 pub record Exploring (g : Automaton) (start c head : ℕ) (order depths : List ℕ) : Type 0 where
-  pub head-in : head ≤ c
   pub queue : Queue (g .states) c order depths
   pub reached : Reached g start depths
   pub begins : getD depths start 0 ≡ 0
@@ -261,7 +260,6 @@ pub exploring-begins : (g : Automaton) {start : ℕ} (order depths : List ℕ) �
     → length order ≡ stateLimit → length depths ≡ stateLimit → ((q : ℕ) → q < stateLimit → getD depths q 0 ≡ far)
     → Exploring g start 1 0 (set order 0 start) (set depths start 0)
 exploring-begins g {start} order depths few ls lo ld none = record {
-  head-in = omega arith;
   queue = grown .queue;
   reached = entered-reached few empty ls (unfound start ls) (le-refl 0) (λ i l. absurd (not-suc-le-zero l)) {g = g} {start = start} refl (led-start g start)
       (λ q lq l. absurd (omega (arith, l, unfound q lq)));
@@ -299,7 +297,6 @@ module _ (g : Automaton) (few : g .states ≤ stateLimit) {start c head p : ℕ}
       → Grown (g .states) (getD depths p 0 + 1) c e order order₁ depths depths₁
       → Onward g depths₁ (getD depths p 0 + 1) p (g .symbols) → Reached g start depths₁ → Exploring g start e (head + 1) order₁ depths₁
   exploring-goes-on {e} {order₁} {depths₁} closed ls grown onward reached = record {
-    head-in = omega (arith, l, grown .more);
     queue = grown .queue;
     reached = reached;
     begins = grown .same start ls (omega (arith, h .begins)) ∙ h .begins;

@@ -37,7 +37,7 @@ pub record Led (g : Automaton) (start q l : ℕ) : Type 0 where
 abbrev pub Reached : Automaton → ℕ → List ℕ → Type 0
 Reached g start depths = (q : ℕ) → q < g .states → getD depths q 0 < far → Led g start q (getD depths q 0)
 
--- of n states c are found so far; `order` lists them, their depths rising
+-- of n states c are found so far; `order` lists them, none less deep than an earlier one
 pub record Queue (n c : ℕ) (order depths : List ℕ) : Type 0 where
   pub order-size : length order ≡ stateLimit
   pub depths-size : length depths ≡ stateLimit
@@ -51,7 +51,7 @@ pub record Queue (n c : ℕ) (order depths : List ℕ) : Type 0 where
 abbrev pub NoDeeper : ℕ → List ℕ → List ℕ → ℕ → Type 0
 NoDeeper c order depths d = (i : ℕ) → i < c → depthAt order depths i ≤ d
 
--- what was found before is still found, at the same places and depths, and the states found since are no deeper than d
+-- what was found before is still found, at the same places and depths, and no state found is deeper than d
 pub record Grown (n d before after : ℕ) (order order₁ depths depths₁ : List ℕ) : Type 0 where
   pub queue : Queue n after order₁ depths₁
   pub no-deeper : NoDeeper after order₁ depths₁ d

@@ -74,8 +74,8 @@ fn new_mark(marks: &[u8], nexts: &[u8], n: usize, k: usize, q: usize) -> u8
     0
 }
 
-// The settled marks of a table, into the first places of the area: the marks as drawn, and in their place one after the
-// other those that states take, until none takes any.
+// Writes the settled marks of a table into the first places of the area: the marks as drawn; then state after state
+// without one takes the mark that all its next states have, until none does.
 fn settle(drawn: &[u8], nexts: &[u8], t: Shape, area: &mut [u8])
     requires { ⌜ TableIn t drawn nexts
         × (t .states ≤ length (now area)) ⌝ }

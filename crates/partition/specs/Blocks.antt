@@ -68,7 +68,7 @@ pub record Finer (n d : ℕ) (reason : ℕ → ℕ → Type 0) (count : ℕ) (sq
   pub entries : (p q : ℕ) → p < n → q < n
       → (entry square′ p q ≡ entry square p q) ⊎ Parted d count reason numbers square′ numbers′ p q
 
--- a set parts two states: one of them is in it
+-- a set parts two states: it has one of them and not the other
 abbrev pub Parts : (ℕ → Bool) → ℕ → ℕ → Type 0
 Parts set p q = set p ≡ set q → ⊥
 

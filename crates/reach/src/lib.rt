@@ -84,8 +84,8 @@ fn enter_predecessors(sets: &mut [u64], nexts: &[u8], n: usize, k: usize)
     }
 }
 
-// The targets, with set q of n for each state q that is in: the lowest state still to expand is expanded until none is
-// left.
+// The targets and, for each state q that is in, the states of set q: the lowest state still to expand is expanded until
+// none is left.
 fn expand(sets: &[u64], n: usize, targets: StateSet) -> StateSet
     requires { ⌜ (n ≤ stateLimit)
         × (n * 2 ≤ length (now sets)) ⌝ }
@@ -124,8 +124,8 @@ fn reaching_in(
     }
 }
 
-// Of two targets each: the targets, and the states from which some trace leads into them. Both go by the same
-// predecessors; the sets are as many as the table needs, few or all.
+// For each of two sets of targets: the targets, and the states from which some trace leads into them. Both go by the
+// same predecessors; the sets are as many as the table needs, few or all.
 pub fn reaching(nexts: &[u8], n: usize, k: usize, one: StateSet, other: StateSet) -> Sources
     requires { ⌜ Rows stateLimit n k (now nexts) ⌝ }
     ensures one { λ r. ⌜ Reaching (graph n k (nexts .entry)) one (r .one) ⌝ }

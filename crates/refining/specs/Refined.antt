@@ -43,7 +43,7 @@ pub record Only (count : ℕ) (members : List ℕ) (p : ℕ) : Type 0 where
 pub record Inside (n : ℕ) (numbers numbers′ : List ℕ) : Type 0 where
   pub were-one : (p q : ℕ) → p < n → q < n → block numbers′ p ≡ block numbers′ q → block numbers p ≡ block numbers q
 
--- after r rounds every pair has had r, and of the states of a pair at r one is in a block from `old` on
+-- after r rounds: every entry is as r rounds leave it, and of the states of a pair at r one is in a block from `old` on
 pub record Refined (g : Automaton) (ends : ℕ → ℕ → Bool) (r old : ℕ) (square numbers : List ℕ) : Type 0 where
   pub stage : (p q : ℕ) → p < g .states → q < g .states → Stage g ends r p q (entry square p q)
   pub fresh : (p q : ℕ) → p < g .states → q < g .states → entry square p q ≡ r

@@ -161,7 +161,7 @@ fn single(block: StateSet) -> StateSet
     StateSet::empty()
 }
 
-// The states that are alone in one of the blocks from `old` on.
+// States that are alone in their block: those of the blocks from `old` on.
 fn alone_from(members: &[u64], old: usize, count: usize) -> StateSet
     requires { ⌜ count * 2 ≤ length (now members) ⌝ }
     ensures { λ r. ⌜ ((p : ℕ) → p < stateLimit → member r p ≡ true → Only count (now (members .entry)) p) ⌝ }

@@ -47,7 +47,7 @@ module _ (g : Automaton) (square : List ℕ) (bits : ℕ) {count i p d total : �
   pub costed-depth : d < far
   costed-depth = (let l = listed-found few queue i li in let e = ap (λ (q : ℕ). getD depths q 0) ep in omega (arith, l, e, ed))
 
-  -- deeper than the least total are all that come
+  -- all that come are at least as deep as the least total
   pub costed-stops : total ≤ d → Enough order depths count i total
   costed-stops l = record {
     within = omega (arith, li);

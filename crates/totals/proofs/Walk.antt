@@ -15,7 +15,7 @@ use Rattle.theory.proofs.Below.{first-here}
 use Rattle.square.specs.Square.{never}
 use Rattle.totals.specs.Totals.{onward, approach, wayToFault, Leading}
 
--- symbol a leads from p to a state with the total l
+-- symbol a leads from p to a state with l left
 abbrev pub leadsToTotal : Automaton → List ℕ → ℕ → ℕ → ℕ → Bool
 leadsToTotal g v l p a = eqb (getD v (g .next p a) 0) l
 
@@ -34,7 +34,7 @@ module _ (g : Automaton) (v costs : List ℕ) where
   unfolding approach
   approach-goes-on l p ne = rw (ne-eqb (getD costs p 0) (suc l) ne)
 
-  -- p is reached and i symbols are written; `left` is the total of p
+  -- p is reached and i symbols are written; `left` is what is left at p
   pub record Walk (start : ℕ) (before area : List ℕ) (p i left : ℕ) : Type 0 where
     pub inside : p < g .states
     pub here : getD v p 0 ≡ left

@@ -1,5 +1,5 @@
-// The least total of a fault set: the depth of a state and what the cheapest fault costs there. And the symbols that lead
-// to the fault which makes it.
+// The least total of a fault set: the depth of a state and what the cheapest fault costs there. And the symbols that
+// lead to the fault which makes it.
 use faults::FaultSet;
 use square::NEVER;
 use square::Test;
@@ -33,7 +33,7 @@ pub struct Least {
     pub visited: usize,
 }
 
-// A number of an array as any number.
+// An entry of an array as a number of symbols.
 fn wide(x: u16) -> usize
     ensures { λ r. ⌜ r ≡ x ⌝ }
 {
@@ -86,7 +86,7 @@ pub fn enter_costs(
     Least { total, visited: i }
 }
 
-// The lowest symbol from p to a state with this total, or the number of symbols.
+// The lowest symbol from p to a state with so much left, or the number of symbols.
 fn onward_by(
     totals: &[u16; STATE_LIMIT],
     nexts: &[u8],
