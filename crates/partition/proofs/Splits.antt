@@ -3,18 +3,20 @@ use mathlib.Core.Path.{_≡_, refl, sym, _∙_}
 use mathlib.Core.Bool.{Bool, true, false, cond, not, _&&_, _||_}
 use mathlib.Core.List.{List}
 use mathlib.Core.Logic.{_⊎_, inl, inr, ⊎-elim}
-use Prim.Native.Nat.{ℕ, zero, suc, _+_, _≤_, _<_, zero-le}
+use Prim.Native.Nat.{ℕ, zero, suc, _+_, _*_, _≤_, _<_, zero-le}
 use native.Mathlib.Nat.{le-refl}
 use native.Mathlib.Omega.{arith}
 use lib.Dec.{eqb, ltb}
+use lib.ListN.{length}
 use borrow.Author.Tests.{eq-eqb, ne-eqb, eqb-true, lt-ltb, le-ltb, ltb-true, not-true}
 use Rattle.theory.specs.Below.{count}
+use Rattle.theory.specs.Monitor.{stateLimit}
 use Rattle.theory.proofs.Below.{clash, not-clash, is-true, both-ways, lt-or-le, same-or-not, or-cases, and-left, and-right, count-le, count-more}
 use Rattle.state_set.specs.Member.{setAt}
-use Rattle.square.specs.Square.{never, entry}
+use Rattle.square.specs.Square.{never, HasRows, entry}
 use Rattle.rows.specs.Sets.{Within}
 use Rattle.rows.proofs.Visit.{fewer}
-use Rattle.partition.specs.Blocks.{block, Partition, between, Split, Parted, Finer, Parts, Stable}
+use Rattle.partition.specs.Blocks.{block, Partition, between, Split, Parted, Finer, Parts, Stable, Divided}
 
 -- blocks none of which is empty are no more than the states
 blocks-most : (n m : ℕ) (number : ℕ → ℕ) → ((c : ℕ) → c < m → (q : ℕ) × (q < n) × (number q ≡ c)) → m ≤ n
@@ -153,10 +155,10 @@ module _ {n blocks d b : ℕ} {square numbers members : List ℕ} {f one others 
   not-others : (q : ℕ) → one q ≡ true → others q ≡ false
   not-others q t = not-clash (λ h. clash (one-is q t .2) (others-is q h .2))
 
-  pub one-within : Within n one
+  one-within : Within n one
   one-within = record { at = λ q t. one-is q t .0 }
 
-  pub others-within : Within n others
+  others-within : Within n others
   others-within = record { at = λ q t. others-is q t .0 }
 
   -- the numbers after the split
@@ -181,8 +183,22 @@ module _ {n blocks d b : ℕ} {square numbers members : List ℕ} {f one others 
           (w .0, w .1, rw h (w .2))
 
   -- there is room for the new block
-  pub room : blocks < n
+  room : blocks < n
   room = (let l = blocks-most n (blocks + 1) number number-some in omega (arith, l))
+
+  -- what a split asks for
+  pub split-asked : n ≤ stateLimit
+      → (n ≤ stateLimit) × HasRows n square × (n ≤ length numbers) × (n * 2 ≤ length members) × (b < n) × (blocks < n) × Within n one × Within n others
+  split-asked few = (
+    few,
+    P .size,
+    P .numbers-size,
+    P .members-size,
+    (let l = room in omega (arith, l, lb)),
+    room,
+    one-within,
+    others-within,
+  )
 
   module _ {square′ numbers′ members′ : List ℕ} (S : Split n b one others blocks d square numbers members square′ numbers′ members′) where
     other-number : b ≡ blocks → ⊥
@@ -389,9 +405,11 @@ splitting-begins P = record { partition = P; finer = finer-none; inside = λ q t
 
 module _ {n d : ℕ} {set : ℕ → Bool} {blocks : ℕ} {square₀ numbers₀ : List ℕ} {left : ℕ → Bool} {made : ℕ} {square numbers members : List ℕ}
     (S : Splitting n d set blocks square₀ numbers₀ left made square numbers members) where
-  pub splitting-ends : ((q : ℕ) → q < n → left q ≡ false) → Stable n set numbers
+  pub splitting-ends : ((q : ℕ) → q < n → left q ≡ false) → Divided n d set blocks square₀ numbers₀ made square numbers members
   splitting-ends none = record {
-    at = λ p q lp lq e. both-ways (λ t. S .done p q lp lq e t (none p lp)) (λ t. S .done q p lq lp (sym e) t (none q lq));
+    partition = S .partition;
+    finer = S .finer;
+    stable = record { at = λ p q lp lq e. both-ways (λ t. S .done p q lp lq e t (none p lp)) (λ t. S .done q p lq lp (sym e) t (none q lq)) };
   }
 
   module _ {y b : ℕ} (ly : y < n) (is : b ≡ block numbers y) {whole left′ : ℕ → Bool} (is-whole : (q : ℕ) → whole q ≡ setAt members b q)

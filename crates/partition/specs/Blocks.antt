@@ -75,3 +75,10 @@ Parts set p q = set p ≡ set q → ⊥
 -- no block has a state in the set and one that is not in it
 pub record Stable (n : ℕ) (set : ℕ → Bool) (numbers : List ℕ) : Type 0 where
   pub at : (p q : ℕ) → p < n → q < n → block numbers p ≡ block numbers q → set p ≡ set q
+
+-- the count blocks were split by the set, each that has a state in it and one that is not in it
+pub record Divided (n d : ℕ) (set : ℕ → Bool) (count : ℕ) (square numbers : List ℕ) (count′ : ℕ)
+    (square′ numbers′ members′ : List ℕ) : Type 0 where
+  pub partition : Partition n count′ square′ numbers′ members′
+  pub finer : Finer n d (Parts set) count square numbers count′ square′ numbers′
+  pub stable : Stable n set numbers′

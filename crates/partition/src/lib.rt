@@ -12,7 +12,7 @@ ghost use Rattle.state_set.specs.Member.{inPart, member};
 ghost use Rattle.square.specs.Square.{never, HasRows};
 ghost use Rattle.rows.specs.Sets.{Within};
 ghost use Rattle.partition.specs.Blocks.{block, Partition, between, Entries, Numbered, Split};
-ghost use Rattle.partition.specs.Blocks.{Finer, Parts, Stable};
+ghost use Rattle.partition.specs.Blocks.{Finer, Parts, Divided};
 
 // ---- a split
 
@@ -153,10 +153,8 @@ pub fn split_by(
     requires { ⌜ (n ≤ stateLimit)
         × Partition n count (now square) (now numbers) (now members)
         × (d < never) ⌝ }
-    ensures blocks { λ r. ⌜ Partition n r (now (square .exit)) (now (numbers .exit)) (now (members .exit)) ⌝ }
-    ensures finer { λ r. ⌜ Finer n d (Parts (member set)) count (now (square .entry)) (now (numbers .entry))
-        r (now (square .exit)) (now (numbers .exit)) ⌝ }
-    ensures stable { λ _. ⌜ Stable n (member set) (now (numbers .exit)) ⌝ }
+    ensures { λ r. ⌜ Divided n d (member set) count (now (square .entry)) (now (numbers .entry))
+        r (now (square .exit)) (now (numbers .exit)) (now (members .exit)) ⌝ }
 {
     let mut left = set;
     let mut made = count;

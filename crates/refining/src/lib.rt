@@ -14,7 +14,7 @@ ghost use Rattle.monitor.specs.Format.{Rows, graph};
 ghost use Rattle.square.specs.declared.Test.the-variants.{Differ};
 ghost use Rattle.square.specs.Square.{never, Blank, Squared, passing};
 ghost use Rattle.rows.specs.Sets.{Preceding, Into, Within};
-ghost use Rattle.partition.specs.Blocks.{block, Partition, Finer, Parts, Stable};
+ghost use Rattle.partition.specs.Blocks.{block, Partition, Finer, Stable, Divided};
 ghost use Rattle.refining.specs.Refined.{Unused, Unlike, LeadsApart};
 ghost use Rattle.refining.specs.Refined.{Alone, Only, Inside, Refined};
 
@@ -99,10 +99,8 @@ fn split_some(
     requires { ⌜ (n ≤ stateLimit)
         × Partition n count (now square) (now numbers) (now members)
         × (d < never) ⌝ }
-    ensures blocks { λ r. ⌜ Partition n r (now (square .exit)) (now (numbers .exit)) (now (members .exit)) ⌝ }
-    ensures finer { λ r. ⌜ Finer n d (Parts (member set)) count (now (square .entry)) (now (numbers .entry))
-        r (now (square .exit)) (now (numbers .exit)) ⌝ }
-    ensures stable { λ _. ⌜ Stable n (member set) (now (numbers .exit)) ⌝ }
+    ensures { λ r. ⌜ Divided n d (member set) count (now (square .entry)) (now (numbers .entry))
+        r (now (square .exit)) (now (numbers .exit)) (now (members .exit)) ⌝ }
 {
     if state_set::is_empty(set) {
         return count;

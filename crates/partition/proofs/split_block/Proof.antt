@@ -7,7 +7,7 @@ use Rattle.theory.specs.Monitor.{stateLimit}
 use Rattle.state_set.specs.Member.{member}
 use Rattle.rows.proofs.Visit.{empty-none, empty-some}
 use Rattle.partition.specs.Blocks.{Parts}
-use Rattle.partition.proofs.Splits.{blocks-few, finer-none, finer-as, not-same, halves-swap, one-within, others-within, room}
+use Rattle.partition.proofs.Splits.{blocks-few, finer-none, finer-as, not-same, Halves, halves-swap, split-asked}
 use Rattle.partition.proofs.Splits.{split-partition, split-finer, split-stable, whole-stable, cut}
 use Rattle.partition.proofs.split_block.Statement.{statement}
 use Rattle.partition.proofs.split_block.Tie as tie
@@ -36,91 +36,62 @@ returns c =
       ),
     )
 
+-- the block has states in the set and states that are not
+halves : (c : tie.After-count2)
+    → (let c₅ = c .before .before .before .before .before in
+    let a = c₅ .before .before .before .before .before .before .args in
+    Halves (a .n) (a .count) (a .b) (a .square .now) (a .numbers .now) (a .members .now) (member (a .set)) (member (c₅ .intersection .result))
+    (member (c .before .before .before .before .minus .result)))
+halves c =
+    let c₅ = c .before .before .before .before .before in
+    let start = c₅ .before .before .before .before .before .before in
+    let minus = c .before .before .before .before .minus in
+    let p = start .pre in
+    cut (p .1) (member (start .args .set)) (p .2) (c₅ .before .read .ensures) (minus .ensures) (c₅ .intersection .ensures)
+    (empty-some stateLimit (member (minus .result)) (c .before .before .before .is-empty .ensures) (c .before .before .if1 .left))
+
 split-requires : tie.Need-split-requires
 split-requires c κs =
-    let c₁₀ = c .before .before .before .before .before .before .before .before .before .before in
-    let start = c₁₀ .before .before .before .before .before in
-    let read = c₁₀ .read in
-    let intersection = c .before .before .before .before .before .before .before .before .before .intersection in
-    let minus = c .before .before .before .before .before .before .before .before .minus in
-    let is-empty = c .before .before .before .before .before .before .before .is-empty in
-    let if1 = c .before .before .before .before .before .before .if1 in
-    let p = start .pre in
-    let out = member (minus .result) in
-    let h = cut (p .1) (member (start .args .set)) (p .2) (read .ensures) (minus .ensures) (intersection .ensures)
-    (empty-some stateLimit out (is-empty .ensures) (if1 .left)) in
-    let l = room (p .3) h in
-    let b = h .below in
-    (p .0, p .1 .size, p .1 .numbers-size, p .1 .members-size, omega (arith, b, l), l, one-within (p .3) h, others-within (p .3) h)
+    let at = c .before .before .before .before in
+    let p = at .before .before .before .before .before .before .before .before .before .before .before .pre in
+    split-asked (p .3) (halves at) (p .0)
 
 add-result : tie.Need-add-result
 add-result c =
     let c₁₀ = c .before .before .before .before .before .before .before .before .before .before in
-    let c₂₀ = c₁₀ .before .before .before .before .before .before .before .before .before .before in
-    (let m = blocks-few (c₂₀ .before .before .pre .1) in omega (arith, m, c₂₀ .before .before .pre .0))
+    let p = c₁₀ .before .before .before .before .before .before .before .before .before .before .before .before .pre in
+    (let m = blocks-few (p .1) in omega (arith, m, p .0))
 
 returns-2 : tie.Need-returns-2
 returns-2 c =
-    let c₁₀ = c .before .before .before .before .before .before .before .before .before .before in
-    let c₂₀ = c₁₀ .before .before .before .before .before .before .before .before .before .before in
-    let start = c₂₀ .before .before in
-    let read = c₁₀ .before .before .before .before .before .before .before .read in
-    let intersection = c₁₀ .before .before .before .before .before .before .intersection in
-    let minus = c₁₀ .before .before .before .before .before .minus in
-    let is-empty = c₁₀ .before .before .before .before .is-empty in
-    let if1 = c₁₀ .before .before .before .if1 in
-    let split = c .before .before .before .before .before .before .split in
-    let p = start .pre in
-    let out = member (minus .result) in
-    let h = cut (p .1) (member (start .args .set)) (p .2) (read .ensures) (minus .ensures) (intersection .ensures)
-    (empty-some stateLimit out (is-empty .ensures) (if1 .left)) in
-    let s = split .ensures in
-    (split-partition (p .3) h s, (split-finer (p .3) h s, split-stable (p .3) h s))
+    let at = c .before .before .before .before .before .before .before .before .before .before .before in
+    let fits = at .before .before .before .before .before .before .before .before .before .before .before .pre .3 in
+    let s = c .before .before .before .before .before .before .split .ensures in
+    (split-partition fits (halves at) s, (split-finer fits (halves at) s, split-stable fits (halves at) s))
 
 split-requires-2 : tie.Need-split-requires-2
 split-requires-2 c κs =
-    let c₁₀ = c .before .before .before .before .before .before .before .before .before .before in
-    let start = c₁₀ .before .before .before .before .before in
-    let read = c₁₀ .read in
-    let intersection = c .before .before .before .before .before .before .before .before .before .intersection in
-    let minus = c .before .before .before .before .before .before .before .before .minus in
-    let is-empty = c .before .before .before .before .before .before .before .is-empty in
-    let if1 = c .before .before .before .before .before .before .if1 in
-    let p = start .pre in
-    let out = member (minus .result) in
-    let h = halves-swap (cut (p .1) (member (start .args .set)) (p .2) (read .ensures) (minus .ensures) (intersection .ensures)
-    (empty-some stateLimit out (is-empty .ensures) (if1 .left))) in
-    let l = room (p .3) h in
-    let b = h .below in
-    (p .0, p .1 .size, p .1 .numbers-size, p .1 .members-size, omega (arith, b, l), l, one-within (p .3) h, others-within (p .3) h)
+    let at = c .before .before .before .before in
+    let p = at .before .before .before .before .before .before .before .before .before .before .before .pre in
+    split-asked (p .3) (halves-swap (halves at)) (p .0)
 
 add-result-2 : tie.Need-add-result-2
 add-result-2 c =
     let c₁₀ = c .before .before .before .before .before .before .before .before .before .before in
-    let c₂₀ = c₁₀ .before .before .before .before .before .before .before .before .before .before in
-    (let m = blocks-few (c₂₀ .before .before .pre .1) in omega (arith, m, c₂₀ .before .before .pre .0))
+    let p = c₁₀ .before .before .before .before .before .before .before .before .before .before .before .before .pre in
+    (let m = blocks-few (p .1) in omega (arith, m, p .0))
 
 returns-3 : tie.Need-returns-3
 returns-3 c =
-    let c₁₀ = c .before .before .before .before .before .before .before .before .before .before in
-    let c₂₀ = c₁₀ .before .before .before .before .before .before .before .before .before .before in
-    let start = c₂₀ .before .before in
-    let read = c₁₀ .before .before .before .before .before .before .before .read in
-    let intersection = c₁₀ .before .before .before .before .before .before .intersection in
-    let minus = c₁₀ .before .before .before .before .before .minus in
-    let is-empty = c₁₀ .before .before .before .before .is-empty in
-    let if1 = c₁₀ .before .before .before .if1 in
-    let split2 = c .before .before .before .before .before .before .split2 in
-    let p = start .pre in
-    let set = member (start .args .set) in
-    let out = member (minus .result) in
-    let h = halves-swap (cut (p .1) set (p .2) (read .ensures) (minus .ensures) (intersection .ensures)
-    (empty-some stateLimit out (is-empty .ensures) (if1 .left))) in
-    let s = split2 .ensures in (
-      split-partition (p .3) h s,
+    let at = c .before .before .before .before .before .before .before .before .before .before .before in
+    let start = at .before .before .before .before .before .before .before .before .before .before .before in
+    let fits = start .pre .3 in
+    let h = halves-swap (halves at) in
+    let s = c .before .before .before .before .before .before .split2 .ensures in (
+      split-partition fits h s,
       (
-        finer-as (Parts set) (λ x y _ _ _ why e. why (ap not e)) (split-finer (p .3) h s),
-        λ x y lx ly eb e. not-same (split-stable (p .3) h s x y lx ly eb e),
+        finer-as (Parts (member (start .args .set))) (λ x y _ _ _ why e. why (ap not e)) (split-finer fits h s),
+        λ x y lx ly eb e. not-same (split-stable fits h s x y lx ly eb e),
       ),
     )
 

@@ -36,7 +36,7 @@ returns c =
     let lowest = c .before .lowest in
     let if1 = c .if1 in
     let at = loop .inv .1 in
-    (at .partition, (at .finer, splitting-ends at (λ q lq. lowest-none stateLimit (member (loop .left)) (lowest .ensures) (if1 .taken) q lq)))
+    splitting-ends at (λ q lq. lowest-none stateLimit (member (loop .left)) (lowest .ensures) (if1 .taken) q lq)
 
 slice-read-b : tie.Need-slice-read-b Inv-loop μ-loop
 slice-read-b c = (let l = c .before .before .before .loop .inv .1 .partition .numbers-size in omega (arith, l, c .before .if1 .left))

@@ -90,7 +90,7 @@ loop-again c =
     let outs = start .args .outputs .now in
     let like = marked-in (getD outs (lowest .result) 0) outs (start .pre .3) (states-marked .ensures) in (
       same-then (loop .inv .0) (square .given) (numbers .given) (members .given),
-      sorting-more (loop .inv .1) (lowest .result) like (s .0) (s .1 .0) (s .1 .1) (minus .ensures),
+      sorting-more (loop .inv .1) (lowest .result) like (s .partition) (s .finer) (s .stable) (minus .ensures),
     )
 
 pub split-outputs-spec : {M : Type 1} → statement M

@@ -16,7 +16,11 @@ returns c =
     let if1 = c .if1 in
     let few = start .pre .0 in
     let none = empty-none stateLimit (member (start .args .set)) (is-empty .ensures) (if1 .taken) in
-    (start .pre .1, (finer-none, record { at = λ p q lp lq e. none p (omega (arith, lp, few)) ∙ sym (none q (omega (arith, lq, few))) }))
+    record {
+      partition = start .pre .1;
+      finer = finer-none;
+      stable = record { at = λ p q lp lq e. none p (omega (arith, lp, few)) ∙ sym (none q (omega (arith, lq, few))) };
+    }
 
 pub split-some-spec : {M : Type 1} → statement M
 split-some-spec =

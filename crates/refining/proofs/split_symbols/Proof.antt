@@ -53,10 +53,10 @@ loop-again c =
     let at = loop .inv in
     let s = split-some .ensures in (
       same-then (at .0) (square .given) (numbers .given) (members .given),
-      s .0,
+      s .partition,
       λ g e ek closed P A. (let la : loop .a < g .symbols = omega (arith, loop-test .taken, ek) in
           leading-more e la (leading .ensures g e (omega (arith, e, few)) la closed P) (minus .ensures) A
-          (at .2 g e ek closed P A) (s .1 .0) (s .1 .1)),
+          (at .2 g e ek closed P A) (s .finer) (s .stable)),
     )
 
 same-length : tie.Need-same-length Inv-loop μ-loop
