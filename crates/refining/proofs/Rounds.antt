@@ -352,3 +352,16 @@ module _ {g : Automaton} {ends : ℕ → ℕ → Bool} {r old count : ℕ} {squa
 pub squared-none : {n k : ℕ} {next : ℕ → ℕ → ℕ} {ends : ℕ → ℕ → Bool} {square : List ℕ} → n ≡ 0 → Blank n square
     → Squared (record { states = n; symbols = k; next = next }) ends square
 squared-none e B = record { size = B .size; noted = λ p q lp. absurd (omega (arith, lp, e)) }
+
+-- and there are no blocks
+pub partition-none : {n : ℕ} {square numbers members splitters predecessors : List ℕ} → n ≡ 0 → Blank n square
+    → Unused n numbers members splitters predecessors → Partition n 0 square numbers members
+partition-none e B U = record {
+  size = B .size;
+  numbers-size = U .numbers-size;
+  members-size = U .members-size;
+  below = λ q lq. absurd (omega (arith, lq, e));
+  some = λ c lc. absurd (omega (arith, lc));
+  members-are = λ c q lc. absurd (omega (arith, lc));
+  together = λ p q lp. absurd (omega (arith, lp, e));
+}

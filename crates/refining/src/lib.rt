@@ -238,7 +238,7 @@ fn refine(
 }
 
 // Enters how many symbols it takes until the outputs of two states differ, for every two states: round by round, until
-// no block is new. The arrays are unused at first.
+// no block is new. The arrays are unused at first; at the end states that are never told apart have one number.
 pub fn enter(
     square: &mut [u16],
     numbers: &mut [u8],
@@ -254,7 +254,10 @@ pub fn enter(
         × Unused n (now numbers) (now members) (now splitters) (now predecessors)
         × Rows stateLimit n k (now nexts)
         × (length (now outputs) ≡ n) ⌝ }
-    ensures { λ _. ⌜ Squared (graph n k (nexts .entry)) (passing Differ (now (outputs .entry))) (now (square .exit)) ⌝ }
+    ensures distances { λ _. ⌜ Squared (graph n k (nexts .entry)) (passing Differ (now (outputs .entry)))
+        (now (square .exit)) ⌝ }
+    ensures blocks { λ _. ⌜ ((count : ℕ)
+        × Partition n count (now (square .exit)) (now (numbers .exit)) (now (members .exit))) ⌝ }
 {
     if n == 0 {
         return;

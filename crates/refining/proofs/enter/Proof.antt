@@ -15,7 +15,7 @@ use Rattle.rows.proofs.Several.{Same, same-first, same-then}
 use Rattle.partition.specs.Blocks.{Partition}
 use Rattle.partition.proofs.Splits.{blocks-few}
 use Rattle.refining.specs.Refined.{Alone, Refined}
-use Rattle.refining.proofs.Rounds.{first-partition, refined-first, refined-last, squared-none, alone-none, alone-more, alone-later}
+use Rattle.refining.proofs.Rounds.{first-partition, refined-first, refined-last, squared-none, partition-none, alone-none, alone-more, alone-later}
 use Rattle.refining.proofs.enter.Statement.{statement}
 use Rattle.refining.proofs.enter.Tie as tie
 
@@ -28,7 +28,9 @@ abbrev μ-loop : tie.MeasureT-loop
 μ-loop square₀ numbers₀ members₀ splitters₀ predecessors nexts n k outputs count₀ old₀ r₀ alone₀ square numbers members splitters count old r alone = n - old
 
 returns : tie.Need-returns Inv-loop μ-loop
-returns c = squared-none (c .if1 .taken) (c .before .before .before .before .before .before .before .before .pre .0)
+returns c =
+    let p = c .before .before .before .before .before .before .before .before .pre in
+    (squared-none (c .if1 .taken) (p .0), (0, partition-none (c .if1 .taken) (p .0) (p .1)))
 
 enter-predecessors-requires : tie.Need-enter-predecessors-requires Inv-loop μ-loop
 enter-predecessors-requires c κs =
@@ -165,7 +167,7 @@ returns-2 c =
     let c₃₀ = c₂₀ .before .before .before .before .before .before .before .before .before .before in
     let p = c₃₀ .pre in
     let at = c .before .loop .inv in
-    refined-last (next-of-rows (p .2)) (omega (arith, at .0, at .1, p .2 .states-most)) (at .4) (at .6) (c .loop-test .left)
+    (refined-last (next-of-rows (p .2)) (omega (arith, at .0, at .1, p .2 .states-most)) (at .4) (at .6) (c .loop-test .left), (c .before .loop .count, at .4))
 
 pub enter-spec : {M : Type 1} → statement M
 enter-spec =
