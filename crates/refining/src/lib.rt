@@ -9,8 +9,9 @@ ghost use lib.Dec.{ltb};
 ghost use lib.ListN.{length, getD};
 ghost use Rattle.theory.specs.Automaton.{Automaton, Closed};
 ghost use Rattle.theory.specs.Monitor.{stateLimit, symbolLimit};
-ghost use Rattle.state_set.specs.Member.{inPart, member, setAt};
+ghost use Rattle.state_set.specs.Member.{inPart, member, Exactly, setAt};
 ghost use Rattle.monitor.specs.Format.{Rows, graph};
+ghost use Rattle.opening.specs.Marks.{hasMark};
 ghost use Rattle.square.specs.declared.Test.the-variants.{Differ};
 ghost use Rattle.square.specs.Square.{never, Blank, Squared, passing};
 ghost use Rattle.rows.specs.Sets.{Preceding, Into, Within};
@@ -19,6 +20,16 @@ ghost use Rattle.refining.specs.Refined.{Unused, Unlike, LeadsApart};
 ghost use Rattle.refining.specs.Refined.{Alone, Only, Inside, Refined};
 
 // ---- the blocks of one output
+
+// The states that have the output of x.
+fn states_like(outputs: &[u8], x: usize) -> StateSet
+    requires { ⌜ (x < length (now outputs))
+        × (length (now outputs) ≤ stateLimit) ⌝ }
+    ensures { λ r. ⌜ Exactly (length (now (outputs .entry)))
+        (hasMark (now (outputs .entry)) (getD (now (outputs .entry)) x 0)) r ⌝ }
+{
+    opening::states_marked(outputs, outputs[x])
+}
 
 // Splits the one block by the outputs of its states: those that differ are at 0. Returns how many blocks there are.
 fn split_outputs(
@@ -45,7 +56,7 @@ fn split_outputs(
         if x >= n {
             return made;
         }
-        let like = opening::states_marked(outputs, outputs[x]);
+        let like = states_like(outputs, x);
         made = partition::split_by(square, numbers, members, n, like, made, 0);
         left = left.minus(like);
     }

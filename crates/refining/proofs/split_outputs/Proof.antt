@@ -41,46 +41,41 @@ returns c =
     let none = lowest-none stateLimit (member (c .before .before .loop .left)) (c .before .lowest .ensures) (c .if1 .taken) in
     (at .partition, (at .finer, λ p q lp lq e. at .done p q lp lq (none p lp) e))
 
-shared-slice-read-states-marked : tie.Need-shared-slice-read-states-marked Inv-loop μ-loop
-shared-slice-read-states-marked c =
-    let c₁₀ = c .before .before .before .before .before .before .before .before .before .before in
-    (let e = c₁₀ .pre .3 in omega (arith, e, c .before .if1 .left))
-
-states-marked-requires : tie.Need-states-marked-requires Inv-loop μ-loop
-states-marked-requires c κs =
-    let c₁₀ = c .before .before .before .before .before .before .before .before .before .before in
-    (let e = c₁₀ .pre .3 in omega (arith, e, c₁₀ .pre .0))
+states-like-requires : tie.Need-states-like-requires Inv-loop μ-loop
+states-like-requires c κs =
+    let p = c .before .before .before .before .before .before .before .before .before .pre in
+    (let e = p .3 in (omega (arith, e, c .if1 .left), omega (arith, e, p .0)))
 
 split-by-requires : tie.Need-split-by-requires Inv-loop μ-loop
 split-by-requires c κs =
     let c₁₀ = c .before .before .before .before .before .before .before .before .before .before in
-    (c₁₀ .before .before .before .before .pre .0, c .before .before .before .before .before .before .before .loop .inv .1 .partition, search needs)
+    (c₁₀ .before .before .before .pre .0, c .before .before .before .before .before .before .loop .inv .1 .partition, search needs)
 
 loop-less : tie.Need-loop-less Inv-loop μ-loop
 loop-less c =
     let c₁₀ = c .before .before .before .before .before .before .before .before .before .before in
     let c₂₀ = c₁₀ .before .before .before .before .before .before .before .before .before .before in
-    let start = c₂₀ .before .before in
-    let loop = c₁₀ .before .before .before .before .before .loop in
-    let lowest = c₁₀ .before .before .before .before .lowest in
-    let if1 = c₁₀ .before .before .before .if1 in
-    let states-marked = c₁₀ .before .states-marked in
+    let start = c₂₀ .before in
+    let loop = c₁₀ .before .before .before .before .loop in
+    let lowest = c₁₀ .before .before .before .lowest in
+    let if1 = c₁₀ .before .before .if1 in
+    let states-like = c₁₀ .before .states-like in
     let minus = c .minus in
     let p = start .pre in
     let l = if1 .left in
     let v = getD (start .args .outputs .now) (lowest .result) 0 in
     let in-left = lowest-in stateLimit (member (loop .left)) (lowest .ensures) (omega (arith, l, p .0)) in
-    fewer stateLimit (member (loop .left)) (member (minus .result)) (member (states-marked .result)) (omega (arith, l, p .0)) in-left
-    (marked-in v (start .args .outputs .now) (p .3) (states-marked .ensures) (lowest .result) (omega (arith, l)) ∙ eq-eqb v v refl) (minus .ensures)
+    fewer stateLimit (member (loop .left)) (member (minus .result)) (member (states-like .result)) (omega (arith, l, p .0)) in-left
+    (marked-in v (start .args .outputs .now) (p .3) (states-like .ensures) (lowest .result) (omega (arith, l)) ∙ eq-eqb v v refl) (minus .ensures)
 
 loop-again : tie.Need-loop-again Inv-loop μ-loop
 loop-again c =
     let c₁₀ = c .before .before .before .before .before .before .before .before .before .before in
     let c₂₀ = c₁₀ .before .before .before .before .before .before .before .before .before .before in
-    let start = c₂₀ .before .before in
-    let loop = c₁₀ .before .before .before .before .before .loop in
-    let lowest = c₁₀ .before .before .before .before .lowest in
-    let states-marked = c₁₀ .before .states-marked in
+    let start = c₂₀ .before in
+    let loop = c₁₀ .before .before .before .before .loop in
+    let lowest = c₁₀ .before .before .before .lowest in
+    let states-like = c₁₀ .before .states-like in
     let split-by = c .before .before .before .before .before .before .before .split-by in
     let square = c .before .before .before .before .before .before .square in
     let numbers = c .before .before .before .before .numbers in
@@ -88,7 +83,7 @@ loop-again c =
     let minus = c .minus in
     let s = split-by .ensures in
     let outs = start .args .outputs .now in
-    let like = marked-in (getD outs (lowest .result) 0) outs (start .pre .3) (states-marked .ensures) in (
+    let like = marked-in (getD outs (lowest .result) 0) outs (start .pre .3) (states-like .ensures) in (
       same-then (loop .inv .0) (square .given) (numbers .given) (members .given),
       sorting-more (loop .inv .1) (lowest .result) like (s .partition) (s .finer) (s .stable) (minus .ensures),
     )
@@ -96,5 +91,5 @@ loop-again c =
 pub split-outputs-spec : {M : Type 1} → statement M
 split-outputs-spec =
     tie.close (tie.spec
-    Inv-loop μ-loop read-requires loop-holds (λ c κs. search needs) same-length same-length-2 same-length-3 returns shared-slice-read-states-marked
-    states-marked-requires split-by-requires (λ c κs. search needs) loop-less loop-again)
+    Inv-loop μ-loop read-requires loop-holds (λ c κs. search needs) same-length same-length-2 same-length-3 returns
+    states-like-requires split-by-requires (λ c κs. search needs) loop-less loop-again)
