@@ -1,31 +1,41 @@
 -- What opening hands out of a body, and what a call answers by it.
-use mathlib.Core.Path.{_≡_, sym, ap, _∙_, subst}
+use mathlib.Core.Path.{_≡_, sym, ap, _∙_}
 use mathlib.Core.List.{List, [], _++_}
 use Prim.Native.Nat.{ℕ, _≤_}
 use native.Mathlib.Omega.{arith}
-use lib.ListN.{length, take, length-take}
+use lib.ListN.{length, take, drop, length-take}
 use lib.Seq.{take-at}
 use Rattle.theory.specs.Answer.{Question, Answer, answered, asks, written}
 use Rattle.theory.specs.Monitor.{Monitor}
+use Rattle.theory.proofs.Answer.{asks-values, asks-other, asks-refuses, untouched, written-over}
 use Rattle.basics.specs.Refusals.{refusal}
 use Rattle.basics.specs.declared.Refusal.{Refusal}
 use Rattle.monitor.specs.Format.{statesOf, symbolsOf, startOf, drawnMarks, settledMarks, marks, nexts, tableOf, monitorOf, Table}
 use Rattle.monitor.specs.Questions.{tableQuestions, judgeAnswer, judgement}
 use Rattle.monitor.specs.declared.Shape.{Shape}
 use Rattle.monitor.specs.declared.Judgement.{Judgement}
-use Rattle.monitor.specs.declared.Judgement.the-variants.{Accepted, Refused}
-use Rattle.monitor.proofs.Accepted.{accepted-drawn, accepted-table, accepted-asks}
-use Rattle.opening.specs.Opens.{Accepts, Opens}
+use Rattle.monitor.specs.declared.Judgement.the-variants as judged
+use Rattle.monitor.proofs.Accepted.{accepted-drawn, accepted-table, accepted-asks, refused-asks}
+use Rattle.opening.specs.Opens.{shapeOf, openAnswer, opened, Opens}
 use Rattle.opening.specs.declared.Opened.{Opened}
-use Rattle.opening.specs.declared.Opened.the-variants as opened
+use Rattle.opening.specs.declared.Opened.the-variants as opens
+
+-- what is known of an accepted body once it is opened: its table, with the settled marks in the first places of an area
+pub record Accepts (limit : ℕ) (b : List ℕ) (t : Shape) (space : List ℕ) : Type 0 where
+  pub accepted : judgeAnswer limit b ≡ answered []
+  pub table : Table limit (t .states) (t .symbols) (t .start) (take (t .states) space) (nexts b)
+  pub monitor : tableOf (t .states) (t .symbols) (t .start) (take (t .states) space) (nexts b) ≡ monitorOf b
 
 -- ---- opening: r is what judging answers, vs and ts are the marks drawn and the next states lent
 
 module _ (limit : ℕ) (b : List ℕ) {r : Judgement} (e : judgement r ≡ judgeAnswer limit b) where
-  pub opened-refused : {x : Refusal} → r ≡ Refused x → judgeAnswer limit b ≡ refusal x
-  opened-refused h = sym e ∙ ap judgement h
+  pub opened-refused : {x : Refusal} → r ≡ judged.Refused x → (area : List ℕ) → Opens limit b area (opens.Refused x) area
+  unfolding openAnswer
+  opened-refused h area =
+      let no = refused-asks limit b [] (shapeOf b) (sym e ∙ ap judgement h) in
+      record { shape = sym no; area-after = untouched _ area no }
 
-  module _ (h : r ≡ Accepted) {n k s : ℕ} (en : n ≡ statesOf b) (ek : k ≡ symbolsOf b) (es : s ≡ startOf b) {vs ts : List ℕ} (ev : vs ≡ drawnMarks b)
+  module _ (h : r ≡ judged.Accepted) {n k s : ℕ} (en : n ≡ statesOf b) (ek : k ≡ symbolsOf b) (es : s ≡ startOf b) {vs ts : List ℕ} (ev : vs ≡ drawnMarks b)
       (et : ts ≡ nexts b) where
     accepted : judgeAnswer limit b ≡ answered []
     accepted = sym e ∙ ap judgement h
@@ -36,27 +46,39 @@ module _ (limit : ℕ) (b : List ℕ) {r : Judgement} (e : judgement r ≡ judge
         let table = accepted-drawn limit b accepted in
         (rw (en, ek, es, ev, et) table, rw (en, size) (table .rows .states-most))
 
-    pub opened-table : {space : List ℕ} (rest : List ℕ) → space ≡ settledMarks n k vs ts ++ rest
-        → Accepts limit b (record { states = n; symbols = k; start = s }) space
-    opened-table {space = space} rest settled =
-        let table = accepted-table limit b accepted in
-        let same : settledMarks n k vs ts ≡ marks b = rw (en, ek, ev, et) in
-        let marks-are : take n space ≡ marks b =
-        ap (take n) (settled ∙ ap (λ (l : List ℕ). l ++ rest) same) ∙ take-at (marks b) rest n (table .marks-length ∙ sym en) in
+    pub opened-table : (before : List ℕ) {after : List ℕ} → after ≡ settledMarks n k vs ts ++ drop n before
+        → Opens limit b before (opens.Table (record { states = n; symbols = k; start = s })) after
+    unfolding openAnswer
+    opened-table before settled =
+        let yes = accepted-asks limit b [] (shapeOf b) accepted in
+        let size = accepted-table limit b accepted .marks-length in
         record {
-          accepted = accepted;
-          table = rw (marks-are, en, ek, es) table;
-          monitor = rw (marks-are, en, ek, es);
+          shape = rw (en, ek, es) (sym yes);
+          area-after = settled ∙ rw (en, ek, ev, et) (ap (λ (m : ℕ). marks b ++ drop m before) (sym size) ∙ written-over (marks b) before yes);
         }
 
 -- ---- what a call answers after opening: the refusal, or its own questions of the table handed out
 
-module _ (limit : ℕ) (b space : List ℕ) {r : Opened} (o : Opens limit b r space) where
-  pub opened-no : {x : Refusal} → r ≡ opened.Refused x → judgeAnswer limit b ≡ refusal x
-  opened-no e = subst (λ (z : Opened). Opens limit b z space) e o
+module _ (limit : ℕ) (b space : List ℕ) {before : List ℕ} {r : Opened} (o : Opens limit b before r space) where
+  pub opened-no : {x : Refusal} → r ≡ opens.Refused x → judgeAnswer limit b ≡ refusal x
+  unfolding openAnswer judgeAnswer
+  opened-no e = asks-refuses (tableQuestions limit b) (shapeOf b) [] (sym (o .shape) ∙ ap opened e)
 
-  pub opened-yes : {t : Shape} → r ≡ opened.Table t → Accepts limit b t space
-  opened-yes e = subst (λ (z : Opened). Opens limit b z space) e o
+  pub opened-yes : {t : Shape} → r ≡ opens.Table t → Accepts limit b t space
+  unfolding openAnswer judgeAnswer
+  opened-yes {t} e =
+      let yes : asks (tableQuestions limit b) (shapeOf b) ≡ answered t = sym (o .shape) ∙ ap opened e in
+      let accepted = asks-other (tableQuestions limit b) (shapeOf b) [] yes in
+      let table = accepted-table limit b accepted in
+      let shape : t ≡ shapeOf b = sym (asks-values (tableQuestions limit b) (shapeOf b) yes) in
+      let marks-are : take (statesOf b) space ≡ marks b =
+      ap (take (statesOf b)) (o .area-after ∙ sym (written-over (marks b) before yes))
+      ∙ take-at (marks b) (drop (length (marks b)) before) (statesOf b) (table .marks-length) in
+      record {
+        accepted = accepted;
+        table = rw (shape, marks-are) table;
+        monitor = rw (shape, marks-are);
+      }
 
 -- ---- t, space and ts are the shape, the array of the marks and the next states handed out
 

@@ -97,10 +97,10 @@ fn settle(drawn: &[u8], nexts: &[u8], t: Shape, area: &mut [u8])
 }
 
 // Judges a body, and opens an accepted one: the shape of its table, and the settled marks in the first places of the
-// array. With `monitor::next_states` this is all that a call knows of a table.
-pub fn open(body: &[u8], marks: &mut [u8]) -> Opened
-    requires { ⌜ length (now marks) ≡ stateLimit ⌝ }
-    ensures { λ r. ⌜ Opens stateLimit (now (body .entry)) r (now (marks .exit)) ⌝ }
+// area. With `monitor::next_states` this is all that a call knows of a table.
+pub fn open(body: &[u8], area: &mut [u8]) -> Opened
+    requires { ⌜ length (now area) ≡ stateLimit ⌝ }
+    ensures { λ r. ⌜ Opens stateLimit (now (body .entry)) (now (area .entry)) r (now (area .exit)) ⌝ }
 {
     match monitor::judge(body) {
         Judgement::Refused(r) => {
@@ -117,7 +117,7 @@ pub fn open(body: &[u8], marks: &mut [u8]) -> Opened
         monitor::drawn_marks(body),
         monitor::next_states(body),
         t,
-        marks,
+        area,
     );
     Opened::Table(t)
 }

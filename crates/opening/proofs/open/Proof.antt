@@ -8,7 +8,7 @@ use Rattle.opening.proofs.open.Tie as tie
 returns : tie.Need-returns
 returns c =
     opened-refused stateLimit (c .before .before .before .before .before .before .args .body .now) (c .before .before .before .judge .ensures)
-    (c .before .r .given .1)
+    (c .before .r .given .1) _
 
 settle-requires : tie.Need-settle-requires
 settle-requires c κs =
@@ -16,7 +16,7 @@ settle-requires c κs =
     let s = at .before .before .before .before .before .before in
     settling stateLimit (s .args .body .now) (at .before .before .before .judge .ensures) (at .before .enum-told .given .1) (at .byte-at .ensures .0)
     (c .before .before .before .before .byte-at2 .ensures .0) (c .before .before .before .byte-at3 .ensures .0)
-    (c .before .before .drawn-marks .ensures) (c .before .next-states .ensures) (s .args .marks .now) (s .pre)
+    (c .before .before .drawn-marks .ensures) (c .before .next-states .ensures) (s .args .area .now) (s .pre)
 
 returns-2 : tie.Need-returns-2
 returns-2 c =
