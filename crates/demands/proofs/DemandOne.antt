@@ -3,30 +3,34 @@ use mathlib.Core.Path.{_≡_, refl, sym, ap, _∙_}
 use mathlib.Core.Bool.{Bool, true, false, cond}
 use mathlib.Core.List.{List, [], _∷_, _++_}
 use mathlib.Core.Logic.{inl, ⊎-elim}
-use Prim.Native.Nat.{ℕ, _<_}
+use Prim.Native.Nat.{ℕ, zero, suc, _<_}
 use native.Mathlib.Omega.{arith}
-use lib.ListN.{length}
+use lib.ListN.{length, getD, length-append}
+use lib.Seq.{getD-at}
 use borrow.Author.Tests.{leb-true}
+use Rattle.theory.specs.Lists.{each}
 use Rattle.theory.specs.Answer.{Question, Answer, refused, answered, asks}
 use Rattle.theory.specs.Monitor.{class}
+use Rattle.theory.specs.Faults.{kinds}
 use Rattle.theory.specs.Certificate.{lowestAlike, madeBlocks}
-use Rattle.theory.proofs.Lists.{in-right}
+use Rattle.theory.proofs.Lists.{in-right, each-at}
 use Rattle.theory.proofs.Answer.{asks-values, untouched, all-answered, answered-all, no-refused}
 use Rattle.theory.proofs.Values.{length-values}
 use Rattle.monitor.specs.Format.{statesOf, monitorOf}
 use Rattle.monitor.specs.Questions.{tableQuestions, judgeAnswer, question9, question10, question13, question19}
 use Rattle.collection.specs.Contents.{countOf, collectionQuestions, collectionAnswer}
-use Rattle.writer.specs.Writing.{fileOf, givenQuestions, writeQuestions, writeAnswer}
+use Rattle.writer.specs.Writing.{fileOf, givenQuestions, writeAnswer}
 use Rattle.classes.specs.Classify.{classList, classifyFigures, classifyAnswer}
-use Rattle.immunity.specs.Findings.{tableFigures, faultAnswer, faultTrace}
+use Rattle.readings.specs.Readings.{stepQuestions, stepFigures, stepAnswer, traceQuestions, traceFigures, traceAnswer}
+use Rattle.immunity.specs.Findings.{tableFigures, faultAnswer, faultTrace, summaryFigures, columnFigures, cardAnswer}
 use Rattle.trust.specs.Trust.{trustFigures, trustAnswer, trustTrace}
 use Rattle.certificate.specs.Questions.{certificateQuestions, certificateAnswer}
 use Rattle.blocks.specs.Made.{blocksFigures, blocksAnswer}
 use Rattle.lines.specs.Line.{ruleLine, lineAnswer}
-use Rattle.demands.specs.DemandOne.{FirstNo, Judged, Lent, DemandOne}
+use Rattle.demands.specs.DemandOne.{FirstNo, Judged, Lent, columnOf, DemandOne}
 
 -- a refusal is the first no
-first-no : (qs : List Question) (values : List ℕ) {number place : ℕ} → asks qs values ≡ refused number place → FirstNo qs number place
+first-no : {A : Type 0} (qs : List Question) (values : A) {number place : ℕ} → asks qs values ≡ refused number place → FirstNo qs number place
 first-no [] values e = absurd (let z : _≡_ {A = ℕ} 0 1 = cc in omega arith)
 first-no (q ∷ qs) values {number} {place} e = go (q .yes) refl e (first-no qs values)
   where
@@ -55,7 +59,8 @@ first-no (q ∷ qs) values {number} {place} e = go (q .yes) refl e (first-no qs 
       its-place = cc;
     }
 
-asks-judged : (qs : List Question) (values : List ℕ) → Judged qs values (asks qs values)
+-- every call that asks is answered so
+pub asks-judged : {A : Type 0} (qs : List Question) (values : A) → Judged qs values (asks qs values)
 asks-judged qs values = record {
   accepts = (answered-all qs values, all-answered qs values);
   refuses = λ number place. (
@@ -64,10 +69,14 @@ asks-judged qs values = record {
   );
 }
 
--- the last question asks for room
+-- one whose last question asks for room, too
 asks-lent : {A : Type 0} (front : List Question) (values : A) (bytes area : List ℕ) (size : ℕ) → size ≡ length bytes
-    → Lent (asks (front ++ (question13 size (length area) ∷ [])) values) bytes area
-asks-lent {A} front values bytes area size same = record { untouched = λ number place e. sym (untouched bytes area e); short = go (asks qs values) refl }
+    → Lent (front ++ (question13 size (length area) ∷ [])) values (asks (front ++ (question13 size (length area) ∷ [])) values) bytes area
+asks-lent {A} front values bytes area size same = record {
+  judged = asks-judged qs values;
+  untouched = λ number place e. sym (untouched bytes area e);
+  short = go (asks qs values) refl;
+}
   where
     qs : List Question
     qs = front ++ (question13 size (length area) ∷ [])
@@ -80,22 +89,46 @@ asks-lent {A} front values bytes area size same = record { untouched = λ number
         let fits = leb-true size (length area) (all q (in-right q front (q ∷ []) (inl refl))) in
         absurd (omega arith)
 
+-- ---- the columns of a card
+
+module _ {A : Type 0} (f : ℕ → A) where
+  -- one of each
+  pub each-one : (n : ℕ) → length (each n (λ i. f i ∷ [])) ≡ n
+  unfolding each
+  each-one zero = refl
+  each-one (suc n) = length-append (each n (λ i. f i ∷ [])) (f n ∷ []) ∙ omega (arith, each-one n)
+
+  pub one-at : (n c : ℕ) (else : A) → c < n → getD (each n (λ i. f i ∷ [])) c else ≡ f c
+  one-at n c else l =
+      let r = each-at c n (λ i. f i ∷ []) l in
+      ap (λ (xs : List A). getD xs c else) (r .1) ∙ getD-at (each c (λ i. f i ∷ [])) (f c) (r .0) else c (each-one c)
+
+-- the column of rank c asks 1 to 8 and answers its figures
+pub column-asks : (limit : ℕ) (body : List ℕ) (c : ℕ) → c < kinds
+    → columnOf (cardAnswer limit body) c ≡ asks (tableQuestions limit body) (columnFigures c (monitorOf body))
+unfolding cardAnswer
+column-asks limit body c l = one-at (λ i. asks (tableQuestions limit body) (columnFigures i (monitorOf body))) kinds c (refused 0 0) l
+
 pub demand-one : (limit : ℕ) (body file area : List ℕ) → DemandOne limit body file area
-unfolding judgeAnswer collectionAnswer classifyAnswer faultAnswer trustAnswer certificateAnswer blocksAnswer lineAnswer writeAnswer
+unfolding judgeAnswer collectionAnswer classifyAnswer stepAnswer traceAnswer faultAnswer trustAnswer certificateAnswer blocksAnswer lineAnswer writeAnswer cardAnswer
 demand-one limit body file area =
     let m = monitorOf body in
+    let table = tableQuestions limit body in
     record {
-      table = asks-judged (tableQuestions limit body) [];
+      table = asks-judged table [];
+      step = λ d q a. asks-judged (table ++ stepQuestions d q a m) (stepFigures d q a m);
+      trace = λ d w. asks-judged (table ++ traceQuestions d w m) (traceFigures d w m);
+      certificate = λ set d c. asks-judged (table ++ certificateQuestions set d c m) [];
+      summary = asks-judged table (summaryFigures m);
+      column = λ c l. rw (column-asks limit body c l) (asks-judged table (columnFigures c m));
       collection = asks-judged (collectionQuestions file) (countOf file ∷ []);
-      classes = asks-lent (tableQuestions limit body) (classifyFigures m) (classList m) area (statesOf body) (sym (length-values (statesOf body) (class m)));
-      faults = λ set d. asks-lent (tableQuestions limit body ++ (question9 set ∷ question10 d ∷ [])) (tableFigures m d set) (faultTrace body set d) area _ refl;
-      trusts = λ set d v. asks-lent (tableQuestions limit body ++ (question9 set ∷ question10 d ∷ question19 d v ∷ [])) (trustFigures m d set v)
-          (trustTrace body set d v) area _ refl;
-      certificate = λ set d c. asks-judged (tableQuestions limit body ++ certificateQuestions set d c m) [];
-      blocks = λ d. asks-lent (tableQuestions limit body ++ (question10 d ∷ [])) (blocksFigures m) (madeBlocks m d) area (statesOf body)
+      classes = asks-lent table (classifyFigures m) (classList m) area (statesOf body) (sym (length-values (statesOf body) (class m)));
+      faults = λ set d. asks-lent (table ++ (question9 set ∷ question10 d ∷ [])) (tableFigures m d set) (faultTrace body set d) area _ refl;
+      trusts = λ set d v.
+          asks-lent (table ++ (question9 set ∷ question10 d ∷ question19 d v ∷ [])) (trustFigures m d set v) (trustTrace body set d v) area _ refl;
+      blocks = λ d. asks-lent (table ++ (question10 d ∷ [])) (blocksFigures m) (madeBlocks m d) area (statesOf body)
           (sym (length-values (statesOf body) (lowestAlike m d)));
-      writer = λ rules lengths bodies. asks-judged (writeQuestions limit rules lengths bodies (length area)) (length (fileOf rules lengths bodies) ∷ []);
       line = λ rule. asks-lent [] (length (ruleLine limit rule body) ∷ []) (ruleLine limit rule body) area _ refl;
-      written-file = λ rules lengths bodies. asks-lent (givenQuestions limit rules lengths bodies) (length (fileOf rules lengths bodies) ∷ [])
+      writer = λ rules lengths bodies. asks-lent (givenQuestions limit rules lengths bodies) (length (fileOf rules lengths bodies) ∷ [])
           (fileOf rules lengths bodies) area _ refl;
     }
