@@ -1,27 +1,26 @@
 -- Which verdicts can be believed, proved of every accepted table, every fault set, both readings and every verdict.
-use mathlib.Core.Path.{_≡_, refl, _∙_, subst}
+use mathlib.Core.Path.{_≡_, refl, ap, _∙_, subst}
 use mathlib.Core.List.{List, [], _++_}
 use mathlib.Core.Option.{Option, none, some}
-use Prim.Native.Nat.{ℕ, _≤_, _<_, zero-le}
+use Prim.Native.Nat.{ℕ, _<_, zero-le}
 use native.Mathlib.Omega.{arith}
-use lib.ListN.{length}
 use borrow.Author.Tests.{le-leb, lt-ltb}
-use Rattle.theory.specs.Answer.{answered}
+use Rattle.theory.specs.Answer.{answered, asks}
 use Rattle.theory.specs.Monitor.{Monitor, WellFormed, reading}
 use Rattle.theory.specs.Faults.{allFaults}
-use Rattle.theory.specs.Series.{Series}
-use Rattle.theory.specs.Trust.{Trusted}
+use Rattle.theory.specs.Series.{Series, sentTrace, receivedTrace}
+use Rattle.theory.specs.Trust.{Trusted, FirstMisreading}
 use Rattle.theory.specs.Computed.{firstMisreading}
 use Rattle.theory.proofs.Answer.{asks-values}
 use Rattle.theory.proofs.Trust.{trusted-exactly, misreading-first, misreading-only, one-for-any, all-trusted}
 use Rattle.monitor.specs.Format.{monitorOf}
 use Rattle.monitor.specs.Questions.{judgeAnswer, tableQuestions}
 use Rattle.monitor.proofs.Accepted.{accepted-table, accepted-asks}
-use Rattle.witness.specs.Figures.{FaultFigures, witnessFigures, witnessTrace}
+use Rattle.witness.specs.Figures.{FaultFigures, witnessFigures, witnessTrace, roomQuestions}
 use Rattle.trust.specs.Trust.{trustFigures, trustQuestions, trustAnswer, trustTrace}
-use Rattle.demands.specs.DemandTwo.{Askable}
+use Rattle.demands.specs.DemandTwo.{Askable, Told}
 use Rattle.demands.specs.TrustedVerdicts.{Believed, yes, no, TrustedVerdicts}
-use Rattle.demands.proofs.DemandTwo.{known, demand-two}
+use Rattle.demands.proofs.DemandTwo.{known, asks-told, demand-two}
 
 -- an answer without values says that the verdict is trusted
 no-values : {m : Monitor} {d set v : ℕ} {given : FaultFigures} {bytes : List ℕ} → Believed m d set v given bytes → given ≡ none → Trusted m d set v
@@ -45,20 +44,43 @@ module _ (limit : ℕ) (b : List ℕ) (e : judgeAnswer limit b ≡ answered []) 
       let same = asks-values (tableQuestions limit b ++ trustQuestions set d v (firstMisreading m d set v) room) (trustFigures m d set v) a in
       subst (λ (x : FaultFigures). Believed m d set v x (trustTrace b set d v)) same (by-outcome (firstMisreading m d set v) refl)
 
-  module _ (room : ℕ) (a : Askable set d) (l : v < d) where
-    given : length (trustTrace b set d v) ≤ room → trustAnswer limit b set d v room ≡ answered (trustFigures m d set v)
-    unfolding trustAnswer
-    given fits =
-        accepted-asks limit b (trustQuestions set d v (firstMisreading m d set v) room) (trustFigures m d set v) e
-        ∙ rw (le-leb set allFaults (a .set-most), known d (a .reading-known), lt-ltb v d l, le-leb (length (trustTrace b set d v)) room fits)
+  -- the first witness is the one that is computed
+  computed : (s : Series) → FirstMisreading m d set v s → firstMisreading m d set v ≡ some s
+  computed s f = go (firstMisreading m d set v) refl
+    where
+      go : (o : Option Series) → firstMisreading m d set v ≡ o → o ≡ some s
+      go none h =
+          let k = f .misreading in
+          absurd (k .sent (trusted-exactly m d v set w .0 h (sentTrace s) (receivedTrace s)
+          (record { by = s; valid = k .valid; is-sent = refl; is-received = refl }) (k .received)))
+      go (some t) h = ap some (misreading-only m d v set t s (misreading-first m d v set w t h) f)
 
-    says-yes : Trusted m d set v → trustAnswer limit b set d v room ≡ answered none
-    says-yes t = (let h = trusted-exactly m d v set w .1 t in given (rw h zero-le) ∙ rw h)
+  untrusted : ¬ (Trusted m d set v) → (s : Series) × FirstMisreading m d set v s
+  untrusted n = go (firstMisreading m d set v) refl
+    where
+      go : (o : Option Series) → firstMisreading m d set v ≡ o → (s : Series) × FirstMisreading m d set v s
+      go none h = absurd (n (trusted-exactly m d v set w .0 h))
+      go (some s) h = (s, misreading-first m d v set w s h)
+
+  module _ (a : Askable set d) (l : v < d) where
+    -- what is left to be asked is 13
+    left : (room : ℕ) → trustAnswer limit b set d v room ≡ asks (roomQuestions (firstMisreading m d set v) room) (trustFigures m d set v)
+    unfolding trustAnswer
+    left room =
+        accepted-asks limit b (trustQuestions set d v (firstMisreading m d set v) room) (trustFigures m d set v) e
+        ∙ rw (le-leb set allFaults (a .set-most), known d (a .reading-known), lt-ltb v d l)
+
+    given : (s : Series) → FirstMisreading m d set v s → Told m d (trustAnswer limit b set d v) (trustTrace b set d v) s
+    given s f = (let h = computed s f in asks-told m d s (λ room. left room ∙ rw h) (ap witnessTrace h))
+
+    says-yes : (room : ℕ) → Trusted m d set v → trustAnswer limit b set d v room ≡ answered none
+    says-yes room t = (let h = trusted-exactly m d v set w .1 t in left room ∙ rw (h, le-leb 0 room zero-le))
 
 pub trusted-verdicts : (limit : ℕ) (b : List ℕ) → judgeAnswer limit b ≡ answered [] → (set d v : ℕ) → TrustedVerdicts limit b set d v
 trusted-verdicts limit b e set d v = record {
-  yes-exactly = λ room a l. (λ h. no-values (tells limit b e set d v room none h) refl, says-yes limit b e set d v room a l);
-  given = λ room a l fits. (trustFigures (monitorOf b) d set v, given limit b e set d v room a l fits);
+  yes-exactly = λ room a l. (λ h. no-values (tells limit b e set d v room none h) refl, says-yes limit b e set d v a l room);
+  untrusted = untrusted limit b e set d v;
+  given = given limit b e set d v;
   answers = tells limit b e set d v;
   first = misreading-only (monitorOf b) d v set;
   immune = λ room a.

@@ -1,23 +1,24 @@
 -- Demand 2: classes and monitorability are the published ones; immune is said exactly if no trace is harmed, else the
--- first witness is told, a shortest one.
+-- first witness is told, a shortest one; and the card says so of each fault alone.
 use mathlib.Core.Path.{_≡_}
 use mathlib.Core.Bool.{true}
-use mathlib.Core.List.{List, [], _∷_}
+use mathlib.Core.List.{List, [], _∷_, _++_}
 use mathlib.Core.Logic.{_↔_, _⊎_}
 use mathlib.Core.Option.{none, some}
-use Prim.Native.Nat.{ℕ, _≤_, _<_}
-use lib.ListN.{length, getD}
-use Rattle.theory.specs.Answer.{answered}
+use Prim.Native.Nat.{ℕ, _^_, _≤_, _<_}
+use lib.ListN.{length, getD, drop}
+use Rattle.theory.specs.Answer.{Answer, refused, answered, written}
 use Rattle.theory.specs.Automaton.{Reaches}
 use Rattle.theory.specs.Monitor.{Monitor, Class, Monitorability, monitorability, reached, statesReached, reading}
-use Rattle.theory.specs.Faults.{allFaults}
+use Rattle.theory.specs.Faults.{kinds, allFaults}
 use Rattle.theory.specs.Series.{Series, sentTrace}
 use Rattle.theory.specs.Extent.{number}
 use Rattle.theory.specs.Distance.{Harmed, Distance, FirstWitness}
 use Rattle.monitor.specs.Format.{statesOf, monitorOf}
 use Rattle.classes.specs.Classify.{classList, classifyAnswer}
 use Rattle.witness.specs.Figures.{FaultFigures, seriesFigures}
-use Rattle.immunity.specs.Findings.{faultAnswer, faultTrace}
+use Rattle.immunity.specs.Findings.{faultAnswer, faultTrace, cardAnswer}
+use Rattle.demands.specs.DemandOne.{columnOf}
 
 -- what is answered of the states, for an area of `room` bytes, is what the published definitions say
 pub record Published (limit : ℕ) (b : List ℕ) (room : ℕ) : Type 0 where
@@ -49,13 +50,35 @@ pub data Found (m : Monitor) (d set : ℕ) : FaultFigures → List ℕ → Type 
   vulnerable : (s : Series) → FirstWitness m d set s → Distance m d set (number (length (sentTrace s)))
       → Found m d set (some (seriesFigures (reading m d) m s)) (sentTrace s)
 
+-- a question about faults, by what it answers for an area of each length and the bytes of the answer: what is told where
+-- s is the first witness
+pub record Told (m : Monitor) (d : ℕ) (answer : ℕ → Answer FaultFigures) (bytes : List ℕ) (s : Series) : Type 0 where
+  -- an area that holds the sent trace: the figures of s, and "the first bytes of the area with the sent trace"
+  pub figures : (room : ℕ) → length (sentTrace s) ≤ room → answer room ≡ answered (some (seriesFigures (reading m d) m s))
+  pub trace : (area : List ℕ) → length (sentTrace s) ≤ length area
+      → written (answer (length area)) bytes area ≡ sentTrace s ++ drop (length (sentTrace s)) area
+  -- a shorter one: "Does the answer fit the area lent for it? 13, place 0."
+  pub short : (room : ℕ) → room < length (sentTrace s) → answer room ≡ refused 13 0
+
+-- the card: n and the monitorability, and for each fault alone, in the written order, what is found under reading 3
+pub record Carded (limit : ℕ) (b : List ℕ) : Type 0 where
+  pub summary : cardAnswer limit b .summary ≡ answered (statesOf b ∷ monitorability (monitorOf b) ∷ [])
+  pub number : length (cardAnswer limit b .columns) ≡ kinds
+  pub column : (c : ℕ) → c < kinds
+      → (values : FaultFigures) × (columnOf (cardAnswer limit b) c ≡ answered values)
+      × Found (monitorOf b) 3 (2 ^ c) values (faultTrace b (2 ^ c) 3)
+
 -- an accepted table, a fault set, a reading and an area of any length; `limit` is the greatest number of states
 pub record DemandTwo (limit : ℕ) (b : List ℕ) (set d room : ℕ) : Type 0 where
   -- classes, monitorability and the states reached
   pub published : Published limit b room
   -- immune is said exactly if no trace is harmed
   pub immune-exactly : Askable set d → (faultAnswer limit b set d room ≡ answered none) ↔ Unharmed (monitorOf b) d set
-  -- else, where the area holds it, the first witness is told, a shortest one
-  pub witness : Askable set d → length (faultTrace b set d) ≤ room
-      → (values : FaultFigures) × (faultAnswer limit b set d room ≡ answered values)
-      × Found (monitorOf b) d set values (faultTrace b set d)
+  -- else there is a first witness, a shortest one
+  pub harmed : ¬ (Unharmed (monitorOf b) d set)
+      → (s : Series) × FirstWitness (monitorOf b) d set s × Distance (monitorOf b) d set (number (length (sentTrace s)))
+  -- which is told where the area lent holds it
+  pub witness : Askable set d → (s : Series) → FirstWitness (monitorOf b) d set s
+      → Told (monitorOf b) d (faultAnswer limit b set d) (faultTrace b set d) s
+  -- the card
+  pub card : Carded limit b

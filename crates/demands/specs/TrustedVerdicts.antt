@@ -4,8 +4,7 @@ use mathlib.Core.Path.{_≡_}
 use mathlib.Core.List.{List, []}
 use mathlib.Core.Logic.{_↔_}
 use mathlib.Core.Option.{none, some}
-use Prim.Native.Nat.{ℕ, _≤_, _<_}
-use lib.ListN.{length}
+use Prim.Native.Nat.{ℕ, _<_}
 use Rattle.theory.specs.Answer.{answered}
 use Rattle.theory.specs.Monitor.{Monitor, reading}
 use Rattle.theory.specs.Series.{Series, sentTrace}
@@ -14,7 +13,7 @@ use Rattle.monitor.specs.Format.{monitorOf}
 use Rattle.witness.specs.Figures.{FaultFigures, seriesFigures}
 use Rattle.immunity.specs.Findings.{faultAnswer}
 use Rattle.trust.specs.Trust.{trustAnswer, trustTrace}
-use Rattle.demands.specs.DemandTwo.{Askable}
+use Rattle.demands.specs.DemandTwo.{Askable, Told}
 
 -- what the values of an answer and the bytes written with it say: yes, and the verdict is trusted; or the figures and
 -- the sent trace of the first witness against it
@@ -28,9 +27,10 @@ pub record TrustedVerdicts (limit : ℕ) (b : List ℕ) (set d v : ℕ) : Type 0
   -- yes is said exactly if the verdict is trusted, whatever the area
   pub yes-exactly : (room : ℕ) → Askable set d → v < d
       → (trustAnswer limit b set d v room ≡ answered none) ↔ Trusted (monitorOf b) d set v
-  -- the question is answered where the area holds the witness
-  pub given : (room : ℕ) → Askable set d → v < d → length (trustTrace b set d v) ≤ room
-      → (values : FaultFigures) × (trustAnswer limit b set d v room ≡ answered values)
+  -- else there is a first witness against it, which is told where the area lent holds it
+  pub untrusted : ¬ (Trusted (monitorOf b) d set v) → (s : Series) × FirstMisreading (monitorOf b) d set v s
+  pub given : Askable set d → v < d → (s : Series) → FirstMisreading (monitorOf b) d set v s
+      → Told (monitorOf b) d (trustAnswer limit b set d v) (trustTrace b set d v) s
   -- an answer, with an area of any length, is right: yes, or the first witness
   pub answers : (room : ℕ) (values : FaultFigures) → trustAnswer limit b set d v room ≡ answered values
       → Believed (monitorOf b) d set v values (trustTrace b set d v)
