@@ -1,13 +1,14 @@
 -- Looking up a rule: the scan through the entries finds it; and in an accepted collection it finds every entry again.
 use mathlib.Core.Path.{_≡_, refl, sym, ap, subst, _∙_}
-use mathlib.Core.Bool.{false}
+use mathlib.Core.Bool.{Bool, true, false, cond}
 use mathlib.Core.List.{List, [], _∷_}
 use Prim.Native.Nat.{ℕ, zero, suc, _+_, _-_, _≤_, _<_, zero-le}
 use native.Mathlib.Nat.{zero-add, lt-trans}
 use native.Mathlib.Omega.{arith}
-use lib.Dec.{eqb}
-use borrow.Author.Tests.{eq-eqb, ne-eqb, lt-ltb, le-ltb, ltb-true}
+use lib.Dec.{eqb, ltb}
+use borrow.Author.Tests.{eqb-true, eq-eqb, ne-eqb, lt-ltb, le-ltb, ltb-true}
 use Rattle.theory.specs.Answer.{answered}
+use Rattle.theory.proofs.Below.{first-here}
 use Rattle.theory.proofs.Scan.{Passed, scan-finds, scan-ends}
 use Rattle.collection.proofs.Answered.{all-answered}
 use Rattle.collection.proofs.Entries.{rises-later}
@@ -57,3 +58,16 @@ module _ (file : List ℕ) (accepted : collectionAnswer file ≡ answered (count
   pub found-again : (i : ℕ) → i < countOf file → entryWith file (ruleOf file i) ≡ Entry i
   found-again i h =
       sym (found file (ruleOf file i) refl record { from = zero-le; upto = omega (arith, h); fails = λ j g l. others i h j l } h refl)
+
+-- an entry that is found is there and has the rule number
+pub found-right : (file : List ℕ) (rule i : ℕ) → entryWith file rule ≡ Entry i → (i < countOf file) × (ruleOf file i ≡ rule)
+found-right file rule i e = go (ltb (firstWith file rule) (countOf file)) refl e
+  where
+    go : (b : Bool) → ltb (firstWith file rule) (countOf file) ≡ b → cond b (Entry (firstWith file rule)) Absent ≡ Entry i
+        → (i < countOf file) × (ruleOf file i ≡ rule)
+    go true l h =
+        let same : firstWith file rule ≡ i = cc in
+        let low = ltb-true (firstWith file rule) (countOf file) l in
+        let has = first-here (λ j. eqb (ruleOf file j) rule) 0 (countOf file) (omega (arith, low)) in
+        rw (← same) ((low, eqb-true (ruleOf file (firstWith file rule)) rule has))
+    go false l h = absurd (let z : _≡_ {A = ℕ} 0 1 = cc in omega arith)

@@ -10,13 +10,8 @@ use Rattle.theory.specs.Answer.{answered}
 use Rattle.collection.proofs.Entries.{starts-later}
 use Rattle.collection.proofs.Answered.{Answered, all-answered}
 use Rattle.collection.proofs.Order.{passes-at}
-use Rattle.collection.specs.Contents.{countOf, offsetOf, lengthOf, bodyOf, startOfBody, follows, collectionAnswer}
-
--- what holds of entry i: its body starts where it has to, ends in the file, and is all there
-pub record Placed (file : List ℕ) (i : ℕ) : Type 0 where
-  pub starts : offsetOf file i ≡ startOfBody file i
-  pub inside : offsetOf file i + lengthOf file i ≤ length file
-  pub whole : length (bodyOf file i) ≡ lengthOf file i
+use Rattle.collection.specs.Contents.{countOf, offsetOf, lengthOf, startOfBody, follows, collectionAnswer}
+use Rattle.collection.specs.Placed.{Placed}
 
 -- where body i ends, body i + 1 has to start
 pub next-start : (file : List ℕ) (i : ℕ) → startOfBody file (i + 1) ≡ offsetOf file i + lengthOf file i

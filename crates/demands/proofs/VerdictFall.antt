@@ -9,8 +9,8 @@ use Rattle.theory.specs.Answer.{answered}
 use Rattle.theory.specs.Automaton.{Trace}
 use Rattle.theory.specs.Monitor.{reading}
 use Rattle.theory.specs.Count.{Decided, verdictCount}
-use Rattle.theory.specs.Series.{Series, sentTrace, receivedTrace}
-use Rattle.theory.specs.Distance.{faultsOf, Witness}
+use Rattle.theory.specs.Series.{Series, Valid, sentTrace, receivedTrace}
+use Rattle.theory.specs.Distance.{faultsOf}
 use Rattle.theory.proofs.Extent.{shortest-one}
 use Rattle.theory.proofs.Faults.{steps-good}
 use Rattle.theory.proofs.Witness.{sent-trace, received-trace}
@@ -20,7 +20,7 @@ use Rattle.monitor.specs.Questions.{firstNotBelow, judgeAnswer}
 use Rattle.monitor.proofs.Accepted.{accepted-table, accepted-asks}
 use Rattle.readings.specs.Readings.{traceQuestions, traceFigures, traceAnswer}
 use Rattle.readings.proofs.Traces.{trace-passed}
-use Rattle.demands.specs.VerdictFall.{VerdictFall, WitnessFall}
+use Rattle.demands.specs.VerdictFall.{VerdictFall, BothFall, WitnessFall}
 use Rattle.demands.proofs.DemandTwo.{known}
 
 pub verdict-fall : (limit : ℕ) (b : List ℕ) → judgeAnswer limit b ≡ answered [] → (w : List ℕ) → Trace (monitorOf b .automaton) w → VerdictFall limit b w
@@ -39,13 +39,20 @@ verdict-fall limit b e w t =
       answers = λ d k. accepted-asks limit b (traceQuestions d w m) (traceFigures d w m) e ∙ rw (known d k, passed);
     }
 
--- and of the two traces of every witness
-pub witness-fall : (limit : ℕ) (b : List ℕ) → judgeAnswer limit b ≡ answered [] → (d set : ℕ) (s : Series)
-    → Witness (monitorOf b) d set s → WitnessFall limit b s
-witness-fall limit b e d set s w =
+-- and of the two traces of every series of one fault
+both-fall : (limit : ℕ) (b : List ℕ) → judgeAnswer limit b ≡ answered [] → (set : ℕ) (s : Series)
+    → Valid (monitorOf b .automaton) (faultsOf (monitorOf b) set) s → BothFall limit b s
+both-fall limit b e set s v =
     let g = monitorOf b .automaton in
     let faults = faultsOf (monitorOf b) set in
     record {
-      sent = verdict-fall limit b e (sentTrace s) (sent-trace g faults (steps-good g set) s (w .valid));
-      received = verdict-fall limit b e (receivedTrace s) (received-trace g faults (steps-good g set) s (w .valid));
+      sent = verdict-fall limit b e (sentTrace s) (sent-trace g faults (steps-good g set) s v);
+      received = verdict-fall limit b e (receivedTrace s) (received-trace g faults (steps-good g set) s v);
     }
+
+-- so of every witness
+pub witness-fall : (limit : ℕ) (b : List ℕ) → judgeAnswer limit b ≡ answered [] → (d set : ℕ) (s : Series) → WitnessFall limit b d set s
+witness-fall limit b e d set s = record {
+  witness = λ w. both-fall limit b e set s (w .valid);
+  misreading = λ v w. both-fall limit b e set s (w .valid);
+}

@@ -7,3 +7,4 @@ pub mod TrustedVerdicts
 pub mod SettledMarks
 pub mod Limits
 pub mod Certificates
+pub mod Collections

@@ -8,7 +8,8 @@ use Rattle.theory.specs.Answer.{answered}
 use Rattle.theory.specs.Extent.{Extent, number, missing}
 use Rattle.theory.specs.Count.{FirstVerdict, verdictCount}
 use Rattle.theory.specs.Series.{Series, sentTrace, receivedTrace}
-use Rattle.theory.specs.Distance.{reads}
+use Rattle.theory.specs.Distance.{reads, Witness}
+use Rattle.theory.specs.Trust.{Misreading}
 use Rattle.monitor.specs.Format.{monitorOf}
 use Rattle.readings.specs.Readings.{traceAnswer}
 
@@ -29,8 +30,13 @@ pub record VerdictFall (limit : ℕ) (b w : List ℕ) : Type 0 where
       → traceAnswer limit b d w
       ≡ answered (record { reading = reads (monitorOf b) d w; count = verdictCount (monitorOf b) w })
 
--- "Every witness carries the count of its sent and of its received trace": both are traces of the table, and the above
--- holds of each
-pub record WitnessFall (limit : ℕ) (b : List ℕ) (s : Series) : Type 0 where
+-- the above holds of the sent and of the received trace of a series
+pub record BothFall (limit : ℕ) (b : List ℕ) (s : Series) : Type 0 where
   pub sent : VerdictFall limit b (sentTrace s)
   pub received : VerdictFall limit b (receivedTrace s)
+
+-- "Every witness carries the count of its sent and of its received trace as well": that of the fault question and that
+-- against a verdict
+pub record WitnessFall (limit : ℕ) (b : List ℕ) (d set : ℕ) (s : Series) : Type 0 where
+  pub witness : Witness (monitorOf b) d set s → BothFall limit b s
+  pub misreading : (v : ℕ) → Misreading (monitorOf b) d set v s → BothFall limit b s

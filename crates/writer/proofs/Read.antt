@@ -13,9 +13,10 @@ use Rattle.theory.proofs.Lists.{each-same}
 use Rattle.theory.proofs.Answer.{asks-values}
 use Rattle.collection.specs.Contents.{countOf, offsetOf, lengthOf, ruleOf, bodyOf, entryOf, startOfBody}
 use Rattle.collection.specs.Contents.{collectionQuestions, collectionAnswer}
+use Rattle.collection.specs.Placed.{Placed}
 use Rattle.collection.proofs.Entries.{entry-there, starts-first}
 use Rattle.collection.proofs.Answered.{all-answered}
-use Rattle.collection.proofs.Placed.{Placed, next-start, bodies-placed}
+use Rattle.collection.proofs.Placed.{next-start, bodies-placed}
 use Rattle.writer.specs.Encoding.{bytesOf, entryBytes, bodyStart, entryFor, encoding}
 use Rattle.writer.specs.Reading.{Bytes, HandsBack}
 use Rattle.writer.proofs.Numbers.{bytes-drop, bytes-take, bytes-back, entry-back}
