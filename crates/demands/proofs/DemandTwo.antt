@@ -40,6 +40,16 @@ no-values (vulnerable s first shortest) e = absurd (let z : _≡_ {A = ℕ} 0 1 
 pub known : (d : ℕ) → (d ≡ 3) ⊎ (d ≡ 6) → (eqb d 3 || eqb d 6) ≡ true
 known d = ⊎-elim (λ (e : d ≡ 3). rw e) (λ (e : d ≡ 6). rw e)
 
+-- what is not none
+pub there : {A : Type 0} (o : Option A) → (o ≡ none → ⊥) → (x : A) × (o ≡ some x)
+there none n = absurd (n refl)
+there (some x) n = (x, refl)
+
+-- where a computed series is first, and there is only one first, that one is computed
+pub computed-first : {First : Series → Type 0} (o : Option Series) → (o ≡ none → ⊥) → ((s : Series) → o ≡ some s → First s)
+    → ((s t : Series) → First s → First t → s ≡ t) → (s : Series) → First s → o ≡ some s
+computed-first o n is only s f = (let t = there o n in t .1 ∙ ap some (only (t .0) s (is (t .0) (t .1)) f))
+
 -- a question about faults of which 13 alone is left, and is asked of the sent trace of s
 pub asks-told : (m : Monitor) (d : ℕ) (s : Series) {answer : ℕ → Answer FaultFigures} {bytes : List ℕ}
     → ((room : ℕ) → answer room ≡ asks (roomQuestions (some s) room) (some (seriesFigures (reading m d) m s)))
@@ -96,19 +106,13 @@ module _ (limit : ℕ) (b : List ℕ) (e : judgeAnswer limit b ≡ answered []) 
 
     -- the first witness is the one that is computed
     computed : (s : Series) → FirstWitness m d set s → firstWitness m d set ≡ some s
-    computed s f = go (firstWitness m d set) refl
-      where
-        go : (o : Option Series) → firstWitness m d set ≡ o → o ≡ some s
-        go none h = absurd (far none h (sentTrace s) (harms s f))
-        go (some t) h = ap some (first-only m d set t s (witness-first limit m w d set t h) f)
+    computed s f = computed-first (firstWitness m d set) (λ h. far none h (sentTrace s) (harms s f)) (witness-first limit m w d set) (first-only m d set) s f
 
     pub harmed : ¬ (Unharmed m d set) → (s : Series) × FirstWitness m d set s × Distance m d set (number (length (sentTrace s)))
-    harmed n = go (firstWitness m d set) refl
-      where
-        go : (o : Option Series) → firstWitness m d set ≡ o
-            → (s : Series) × FirstWitness m d set s × Distance m d set (number (length (sentTrace s)))
-        go none h = absurd (n (far none h))
-        go (some s) h = (s, witness-first limit m w d set s h, far (some s) h)
+    harmed n =
+        let t = there (firstWitness m d set) (λ h. n (far none h)) in
+        let h = t .1 in
+        (t .0, witness-first limit m w d set (t .0) h, far (some (t .0)) h)
 
     module _ (a : Askable set d) where
       -- what is left to be asked is 13

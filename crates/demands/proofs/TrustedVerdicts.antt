@@ -20,7 +20,7 @@ use Rattle.witness.specs.Figures.{FaultFigures, witnessFigures, witnessTrace, r
 use Rattle.trust.specs.Trust.{trustFigures, trustQuestions, trustAnswer, trustTrace}
 use Rattle.demands.specs.DemandTwo.{Askable, Told}
 use Rattle.demands.specs.TrustedVerdicts.{Believed, yes, no, TrustedVerdicts}
-use Rattle.demands.proofs.DemandTwo.{known, asks-told, demand-two}
+use Rattle.demands.proofs.DemandTwo.{known, there, computed-first, asks-told, demand-two}
 
 -- an answer without values says that the verdict is trusted
 no-values : {m : Monitor} {d set v : ℕ} {given : FaultFigures} {bytes : List ℕ} → Believed m d set v given bytes → given ≡ none → Trusted m d set v
@@ -46,21 +46,18 @@ module _ (limit : ℕ) (b : List ℕ) (e : judgeAnswer limit b ≡ answered []) 
 
   -- the first witness is the one that is computed
   computed : (s : Series) → FirstMisreading m d set v s → firstMisreading m d set v ≡ some s
-  computed s f = go (firstMisreading m d set v) refl
+  computed s f = computed-first (firstMisreading m d set v) none-first (misreading-first m d v set w) (misreading-only m d v set) s f
     where
-      go : (o : Option Series) → firstMisreading m d set v ≡ o → o ≡ some s
-      go none h =
+      none-first : firstMisreading m d set v ≡ none → ⊥
+      none-first h =
           let k = f .misreading in
-          absurd (k .sent (trusted-exactly m d v set w .0 h (sentTrace s) (receivedTrace s)
-          (record { by = s; valid = k .valid; is-sent = refl; is-received = refl }) (k .received)))
-      go (some t) h = ap some (misreading-only m d v set t s (misreading-first m d v set w t h) f)
+          k .sent (trusted-exactly m d v set w .0 h (sentTrace s) (receivedTrace s)
+          (record { by = s; valid = k .valid; is-sent = refl; is-received = refl }) (k .received))
 
   untrusted : ¬ (Trusted m d set v) → (s : Series) × FirstMisreading m d set v s
-  untrusted n = go (firstMisreading m d set v) refl
-    where
-      go : (o : Option Series) → firstMisreading m d set v ≡ o → (s : Series) × FirstMisreading m d set v s
-      go none h = absurd (n (trusted-exactly m d v set w .0 h))
-      go (some s) h = (s, misreading-first m d v set w s h)
+  untrusted n =
+      let t = there (firstMisreading m d set v) (λ h. n (trusted-exactly m d v set w .0 h)) in
+      (t .0, misreading-first m d v set w (t .0) (t .1))
 
   module _ (a : Askable set d) (l : v < d) where
     -- what is left to be asked is 13
