@@ -1,13 +1,10 @@
 -- The call that writes a certificate for a table and a reading.
 use mathlib.Core.List.{List, [], _∷_, _++_}
 use Prim.Native.Nat.{ℕ}
-use lib.Dec.{eqb}
-use Rattle.theory.specs.Below.{first}
 use Rattle.theory.specs.Answer.{Question, Answer, asks}
 use Rattle.theory.specs.Monitor.{Monitor}
 use Rattle.monitor.specs.Format.{monitorOf}
 use Rattle.monitor.specs.Questions.{tableQuestions, question10, question13}
-use Rattle.square.specs.Square.{never, entry}
 
 -- writing a certificate asks 1 to 8, 10, 13; `room` is the length of the area lent
 abbrev pub blocksQuestions : ℕ → ℕ → Monitor → List Question
@@ -21,7 +18,3 @@ blocksFigures m = m .automaton .states ∷ []
 unfoldable pub blocksAnswer : ℕ → List ℕ → ℕ → ℕ → Answer (List ℕ)
 blocksAnswer limit b d room =
     asks (tableQuestions limit b ++ blocksQuestions d room (monitorOf b)) (blocksFigures (monitorOf b))
-
--- the lowest state that the square does not tell apart from q
-abbrev pub lowestBy : List ℕ → ℕ → ℕ
-lowestBy square q = first (λ p. eqb (entry square p q) never) 0 q

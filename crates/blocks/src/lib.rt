@@ -3,13 +3,12 @@ use basics::Refusal;
 use basics::Writing;
 use monitor::Shape;
 use opening::Opened;
-use square::FEW;
-use square::NEVER;
-use square::Test;
+use state_set::WORDS;
 use theory::STATE_LIMIT;
+use theory::SYMBOL_LIMIT;
 ghost use mathlib.Core.Path.{_≡_};
 ghost use mathlib.Core.List.{_++_};
-ghost use Prim.Native.Nat.{_≤_, _<_};
+ghost use Prim.Native.Nat.{_≤_};
 ghost use lib.ListN.{length, drop};
 ghost use Rattle.theory.specs.Below.{values};
 ghost use Rattle.theory.specs.Answer.{asks, written};
@@ -18,53 +17,28 @@ ghost use Rattle.theory.specs.Certificate.{madeBlocks};
 ghost use Rattle.basics.specs.Refusals.{lengthWritten};
 ghost use Rattle.monitor.specs.Format.{monitorOf};
 ghost use Rattle.monitor.specs.Opening.{monitorIn, TableIn};
-ghost use Rattle.square.specs.Square.{HasRows, Blank};
-ghost use Rattle.blocks.specs.Made.{blocksQuestions, blocksFigures, blocksAnswer, lowestBy};
+ghost use Rattle.certificate.specs.Agreeing.{Numbered, lowestIn};
+ghost use Rattle.blocks.specs.Made.{blocksQuestions, blocksFigures, blocksAnswer};
 
-// The lowest state that the square does not tell apart from q.
-fn lowest_alike(square: &[u16], n: usize, q: usize) -> usize
-    requires { ⌜ (n ≤ stateLimit)
-        × HasRows n (now square)
-        × (q < n) ⌝ }
-    ensures { λ r. ⌜ (r ≡ lowestBy (now (square .entry)) q)
-        × (r ≤ q) ⌝ }
-{
-    let mut p = 0;
-    while p < q {
-        if square::entry_at(square, p, q) == NEVER {
-            return p;
-        }
-        p += 1;
-    }
-    p
-}
-
-// That of every state, into the first places of the area.
-fn write_lowest(square: &[u16], n: usize, area: &mut [u8])
-    requires { ⌜ (n ≤ stateLimit)
-        × HasRows n (now square)
-        × (n ≤ length (now area)) ⌝ }
+// The lowest state of the block of every state, into the first places of the area.
+fn write_lowest(blocks: &[u8], area: &mut [u8])
+    requires { ⌜ Numbered (length (now blocks)) (now blocks)
+        × (length (now blocks) ≤ length (now area)) ⌝ }
     ensures { λ _. ⌜ now (area .exit)
-        ≡ values n (lowestBy (now (square .entry))) ++ drop n (now (area .entry)) ⌝ }
+        ≡ values (length (now (blocks .entry))) (lowestIn (now (blocks .entry)))
+        ++ drop (length (now (blocks .entry))) (now (area .entry)) ⌝ }
 {
+    let lowest = certificate::lowest_states(blocks);
     let mut q = 0;
-    while q < n {
-        area[q] = lowest_alike(square, n, q) as u8;
+    while q < blocks.len() {
+        area[q] = certificate::lowest_of(&lowest, blocks, q) as u8;
         q += 1;
     }
 }
 
-// The blocks of a table, in a blank square.
-fn write_in(
-    square: &mut [u16],
-    marks: &[u8],
-    nexts: &[u8],
-    t: Shape,
-    domain: usize,
-    area: &mut [u8],
-)
+// The blocks of a table: the search numbers them, and puts states that are never told apart into one.
+fn write_blocks(marks: &[u8], nexts: &[u8], t: Shape, domain: usize, area: &mut [u8])
     requires { ⌜ TableIn t marks nexts
-        × Blank (t .states) (now square)
         × (t .states ≤ length (now area)) ⌝ }
     ensures { λ _. ⌜ now (area .exit)
         ≡ madeBlocks (monitorIn t (marks .entry) (nexts .entry)) domain ++ drop (t .states) (now (area .entry)) ⌝ }
@@ -72,24 +46,23 @@ fn write_in(
     let n = t.states;
     let mut outputs = [0u8; STATE_LIMIT];
     readings::write_readings(marks, nexts, t, domain, &mut outputs);
-    pairs::enter_distances(square, nexts, n, t.symbols, &outputs[..n], Test::Differ);
-    write_lowest(square, n, area);
-}
-
-// The same: the square has as many rows as the table needs, few or all.
-fn write_blocks(marks: &[u8], nexts: &[u8], t: Shape, domain: usize, area: &mut [u8])
-    requires { ⌜ TableIn t marks nexts
-        × (t .states ≤ length (now area)) ⌝ }
-    ensures { λ _. ⌜ now (area .exit)
-        ≡ madeBlocks (monitorIn t (marks .entry) (nexts .entry)) domain ++ drop (t .states) (now (area .entry)) ⌝ }
-{
-    if t.states <= FEW {
-        let mut square = square::blank_few();
-        write_in(&mut square, marks, nexts, t, domain, area);
-        return;
-    }
     let mut square = square::blank();
-    write_in(&mut square, marks, nexts, t, domain, area);
+    let mut numbers = [0u8; STATE_LIMIT];
+    let mut members = [0u64; STATE_LIMIT * WORDS];
+    let mut splitters = [0u64; STATE_LIMIT * WORDS];
+    let mut predecessors = [0u64; STATE_LIMIT * SYMBOL_LIMIT * WORDS];
+    refining::enter(
+        &mut square,
+        &mut numbers,
+        &mut members,
+        &mut splitters,
+        &mut predecessors,
+        nexts,
+        n,
+        t.symbols,
+        &outputs[..n],
+    );
+    write_lowest(&numbers[..n], area);
 }
 
 // The certificate of an opened table: questions 10 and 13.

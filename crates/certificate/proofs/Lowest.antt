@@ -68,6 +68,12 @@ module _ (c : List ℕ) where
     lowest-block : blockOf c (lowestIn c q) ≡ blockOf c q
     lowest-block = eqb-true (blockOf c (lowestIn c q)) (blockOf c q) (first-here (λ p. sameBlock c p q) 0 (length c) (omega (arith, lowest-most, l)))
 
+    -- it is found among the states up to q
+    pub lowest-upto : first (λ p. sameBlock c p q) 0 q ≡ lowestIn c q
+    lowest-upto =
+        first-is (λ p. sameBlock c p q) q 0 (lowestIn c q) zero-le (omega (arith, lowest-most)) (first-below (λ p. sameBlock c p q) 0 (length c))
+        (λ b. first-here (λ p. sameBlock c p q) 0 (length c) (omega (arith, b, l)))
+
   lowest-same : (p q : ℕ) → blockOf c p ≡ blockOf c q → lowestIn c p ≡ lowestIn c q
   lowest-same p q e = ap (λ (b : ℕ). first (λ x. eqb (blockOf c x) b) 0 (length c)) e
 

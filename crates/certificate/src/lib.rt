@@ -35,7 +35,7 @@ enum Agreement {
 }
 
 // The lowest state of each block, by block number: the states are entered from the highest down.
-fn lowest_states(blocks: &[u8]) -> [u8; STATE_LIMIT]
+pub fn lowest_states(blocks: &[u8]) -> [u8; STATE_LIMIT]
     requires { ⌜ Numbered (length (now blocks)) (now blocks) ⌝ }
     ensures { λ r. ⌜ Lowest (now (blocks .entry)) r ⌝ }
 {
@@ -49,7 +49,7 @@ fn lowest_states(blocks: &[u8]) -> [u8; STATE_LIMIT]
 }
 
 // The lowest state of the block of q.
-fn lowest_of(lowest: &[u8], blocks: &[u8], q: usize) -> usize
+pub fn lowest_of(lowest: &[u8], blocks: &[u8], q: usize) -> usize
     requires { ⌜ Numbered (length (now blocks)) (now blocks)
         × Lowest (now blocks) (now lowest)
         × (q < length (now blocks)) ⌝ }
