@@ -1,6 +1,8 @@
 pub mod DemandOne
 pub mod DemandTwo
 pub mod DemandThree
+pub mod Places
+pub mod Tables
 pub mod VerdictFall
 pub mod RoundTrip
 pub mod TrustedVerdicts
