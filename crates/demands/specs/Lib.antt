@@ -10,3 +10,4 @@ pub mod SettledMarks
 pub mod Limits
 pub mod Certificates
 pub mod Collections
+pub mod Passes

@@ -9,7 +9,7 @@ use lib.Arith.{digits-lt, digits-div, digits-mod}
 use borrow.Author.Tests.{eq-eqb, ne-eqb}
 use Rattle.theory.proofs.Below.{lt-or-le}
 use Rattle.pass.specs.declared.Position.{Position}
-use Rattle.pass.specs.Pass.{start, next, pair, Pass}
+use Rattle.pass.specs.Pass.{start, next, pair}
 
 -- ---- numbers
 
@@ -45,20 +45,29 @@ unfolding pair
 along l zero = record { numbered = omega arith; column-below = l }
 along {n} l (suc k) = along-next (pair n k) (along l k)
 
-module _ {n k : ℕ} (l : k < n * n) where
+module _ (n : ℕ) {k : ℕ} (l : k < n * n) where
   some : 0 < n
   some = ⊎-elim (λ (h : 0 < n). h) (λ h. (let z : n ≡ 0 = omega (arith, h) in absurd (let m = rw z at l in omega (arith, m)))) (lt-or-le 0 n)
 
   here : Along n k (pair n k)
   here = along some k
 
-  row-low : (pair n k) .row < n
+  -- "row times states plus column equal to k, up to the last pair"
+  pub numbered : (pair n k) .row * n + (pair n k) .column ≡ k
+  numbered = here .numbered
+
+  -- row and column are states
+  pub column-low : (pair n k) .column < n
+  column-low = here .column-below
+
+  pub row-low : (pair n k) .row < n
   row-low =
       ⊎-elim (λ (h : (pair n k) .row < n). h)
       (λ h. absurd (let m = mul-le-mul-right n h in let e = here .numbered in omega (arith, m, e, l)))
       (lt-or-le ((pair n k) .row) n)
 
-count : (n k : ℕ) → (pair n k) .number ≡ k
+-- the number that walks along is k
+pub count : (n k : ℕ) → (pair n k) .number ≡ k
 unfolding pair
 count n zero = refl
 count n (suc k) = (let e = count n k in omega (arith, e))
@@ -72,18 +81,11 @@ over n =
     (λ h. (let z : n ≡ 0 = omega (arith, h) in rw z refl))
     (lt-or-le 0 n)
 
-pub pass : (n : ℕ) → Pass n
-pass n = record {
-  numbered = λ k l. here l .numbered;
-  counted = count n;
-  row-below = λ k l. row-low l;
-  column-below = λ k l. here l .column-below;
-  visited = λ p q lp lq.
-      let l = digits-lt lp lq in
-      let A = here l in
-      (p * n + q, l, row-is _ p (A .column-below) lq (A .numbered), column-is _ p (A .column-below) lq (A .numbered));
-  once = λ i k li lk er ec. sym (here li .numbered) ∙ rw (er, ec) (here lk .numbered);
-}
+-- every pair of states is visited
+pub visited : {n p q : ℕ} → p < n → q < n → (k : ℕ) × (k < n * n) × ((pair n k) .row ≡ p) × ((pair n k) .column ≡ q)
+visited {n} {p} {q} lp lq =
+    let l = digits-lt lp lq in
+    (p * n + q, l, row-is _ p (column-low n l) lq (numbered n l), column-is _ p (column-low n l) lq (numbered n l))
 
 -- ---- the pair that a pass is at
 
@@ -105,10 +107,10 @@ module _ {n : ℕ} {at : Position} (o : On n at) where
 
   module _ (l : at .number < n * n) where
     pub on-numbered : at .row * n + at .column ≡ at .number
-    on-numbered = subst (λ (x : Position). x .row * n + x .column ≡ at .number) (sym (o .is)) (pass n .numbered (at .number) l)
+    on-numbered = subst (λ (x : Position). x .row * n + x .column ≡ at .number) (sym (o .is)) (numbered n l)
 
     pub on-row : at .row < n
-    on-row = subst (λ (x : Position). x .row < n) (sym (o .is)) (pass n .row-below (at .number) l)
+    on-row = subst (λ (x : Position). x .row < n) (sym (o .is)) (row-low n l)
 
     pub on-column : at .column < n
-    on-column = subst (λ (x : Position). x .column < n) (sym (o .is)) (pass n .column-below (at .number) l)
+    on-column = subst (λ (x : Position). x .column < n) (sym (o .is)) (column-low n l)

@@ -1,7 +1,6 @@
 -- A pass over the pairs of states: row by row, by one step from a pair to the next, with no division.
-use mathlib.Core.Path.{_≡_}
 use mathlib.Core.Bool.{cond}
-use Prim.Native.Nat.{ℕ, zero, suc, _+_, _*_, _<_}
+use Prim.Native.Nat.{ℕ, zero, suc, _+_}
 use lib.Dec.{eqb}
 use Rattle.pass.specs.declared.Position.{Position}
 
@@ -21,16 +20,3 @@ next n at = record {
 unfoldable pub pair : ℕ → ℕ → Position
 pair n zero = start
 pair n (suc k) = next n (pair n k)
-
--- what a pass over n states does
-pub record Pass (n : ℕ) : Type 0 where
-  -- "pair k of a pass, from 0, has row times states plus column equal to k, up to the last pair"
-  pub numbered : (k : ℕ) → k < n * n → (pair n k) .row * n + (pair n k) .column ≡ k
-  -- the number that walks along is k
-  pub counted : (k : ℕ) → (pair n k) .number ≡ k
-  -- row and column are states, every pair of states is visited, and none twice
-  pub row-below : (k : ℕ) → k < n * n → (pair n k) .row < n
-  pub column-below : (k : ℕ) → k < n * n → (pair n k) .column < n
-  pub visited : (p q : ℕ) → p < n → q < n → (k : ℕ) × (k < n * n) × ((pair n k) .row ≡ p) × ((pair n k) .column ≡ q)
-  pub once : (i k : ℕ) → i < n * n → k < n * n → (pair n i) .row ≡ (pair n k) .row
-      → (pair n i) .column ≡ (pair n k) .column → i ≡ k
