@@ -103,14 +103,18 @@ module _ {A : Type 0} (f : ℕ → A) where
       let r = each-at c n (λ i. f i ∷ []) l in
       ap (λ (xs : List A). getD xs c else) (r .1) ∙ getD-at (each c (λ i. f i ∷ [])) (f c) (r .0) else c (each-one c)
 
--- the column of rank c asks 1 to 8 and answers its figures
+-- the summary asks 1 to 8 and answers its figures, and so does the column of rank c
+pub summary-asks : (limit : ℕ) (body : List ℕ) → cardAnswer limit body .summary ≡ asks (tableQuestions limit body) (summaryFigures (monitorOf body))
+unfolding cardAnswer
+summary-asks limit body = refl
+
 pub column-asks : (limit : ℕ) (body : List ℕ) (c : ℕ) → c < kinds
     → columnOf (cardAnswer limit body) c ≡ asks (tableQuestions limit body) (columnFigures c (monitorOf body))
 unfolding cardAnswer
 column-asks limit body c l = one-at (λ i. asks (tableQuestions limit body) (columnFigures i (monitorOf body))) kinds c (refused 0 0) l
 
 pub demand-one : (limit : ℕ) (body file area : List ℕ) → DemandOne limit body file area
-unfolding judgeAnswer collectionAnswer classifyAnswer stepAnswer traceAnswer faultAnswer trustAnswer certificateAnswer blocksAnswer lineAnswer writeAnswer cardAnswer
+unfolding judgeAnswer collectionAnswer classifyAnswer stepAnswer traceAnswer faultAnswer trustAnswer certificateAnswer blocksAnswer lineAnswer writeAnswer
 demand-one limit body file area =
     let m = monitorOf body in
     let table = tableQuestions limit body in
@@ -119,7 +123,7 @@ demand-one limit body file area =
       step = λ d q a. asks-judged (table ++ stepQuestions d q a m) (stepFigures d q a m);
       trace = λ d w. asks-judged (table ++ traceQuestions d w m) (traceFigures d w m);
       certificate = λ set d c. asks-judged (table ++ certificateQuestions set d c m) [];
-      summary = asks-judged table (summaryFigures m);
+      summary = rw (summary-asks limit body) (asks-judged table (summaryFigures m));
       column = λ c l. rw (column-asks limit body c l) (asks-judged table (columnFigures c m));
       collection = asks-judged (collectionQuestions file) (countOf file ∷ []);
       classes = asks-lent table (classifyFigures m) (classList m) area (statesOf body) (sym (length-values (statesOf body) (class m)));

@@ -27,7 +27,7 @@ use Rattle.classes.specs.Classify.{classList, classifyQuestions, classifyFigure
 use Rattle.witness.specs.Figures.{FaultFigures, seriesFigures, witnessFigures, witnessTrace, roomQuestions}
 use Rattle.immunity.specs.Findings.{faultQuestions, tableFigures, faultAnswer, faultTrace, summaryFigures, columnFigures, cardAnswer}
 use Rattle.demands.specs.DemandTwo.{Published, Askable, Unharmed, Found, immune, vulnerable, Told, Carded, DemandTwo}
-use Rattle.demands.proofs.DemandOne.{each-one, column-asks}
+use Rattle.demands.proofs.DemandOne.{each-one, summary-asks, column-asks}
 
 byte-class : (m : Monitor) (q : ℕ) → q < m .automaton .states → getD (classList m) q 0 ≡ class m q
 byte-class m q l = ap (λ (v : List ℕ). getD v q 0) (sym (append-nil (classList m))) ∙ getD-filled (class m) [] (m .automaton .states) q l
@@ -135,7 +135,7 @@ module _ (limit : ℕ) (b : List ℕ) (e : judgeAnswer limit b ≡ answered []) 
   pub carded : Carded limit b
   unfolding cardAnswer
   carded = record {
-    summary = accepted-asks limit b [] (summaryFigures m) e;
+    summary = summary-asks limit b ∙ accepted-asks limit b [] (summaryFigures m) e;
     number = each-one (λ c. asks (tableQuestions limit b) (columnFigures c m)) kinds;
     column = λ c l. (
       columnFigures c m,

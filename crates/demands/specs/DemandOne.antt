@@ -103,7 +103,8 @@ pub record DemandOne (limit : ℕ) (body file area : List ℕ) : Type 0 where
       (blocksAnswer limit body d (length area)) (madeBlocks (monitorOf body) d) area
   -- a line of the listing, which tells a refusal of the body as well, is asked 13 alone
   pub line : (rule : ℕ)
-      → Lent (question13 (length (ruleLine limit rule body)) (length area) ∷ []) (length (ruleLine limit rule body) ∷ [])
+      → Lent (question13 (length (ruleLine limit rule body)) (length area) ∷ [])
+      (length (ruleLine limit rule body) ∷ [])
       (lineAnswer limit rule body (length area)) (ruleLine limit rule body) area
   -- what is handed to the writer is asked 27, 21, 23, 28, each body 1 to 8, and 13, and answers the file's length
   pub writer : (rules lengths bodies : List ℕ)

@@ -50,11 +50,12 @@ pub data Found (m : Monitor) (d set : ℕ) : FaultFigures → List ℕ → Type 
   vulnerable : (s : Series) → FirstWitness m d set s → Distance m d set (number (length (sentTrace s)))
       → Found m d set (some (seriesFigures (reading m d) m s)) (sentTrace s)
 
--- a question about faults, by what it answers for an area of each length and the bytes of the answer: what is told where
--- s is the first witness
+-- a question about faults, by what it answers for an area of each length and the bytes of the answer: what is told
+-- where s is the first witness
 pub record Told (m : Monitor) (d : ℕ) (answer : ℕ → Answer FaultFigures) (bytes : List ℕ) (s : Series) : Type 0 where
   -- an area that holds the sent trace: the figures of s, and "the first bytes of the area with the sent trace"
-  pub figures : (room : ℕ) → length (sentTrace s) ≤ room → answer room ≡ answered (some (seriesFigures (reading m d) m s))
+  pub figures : (room : ℕ) → length (sentTrace s) ≤ room
+      → answer room ≡ answered (some (seriesFigures (reading m d) m s))
   pub trace : (area : List ℕ) → length (sentTrace s) ≤ length area
       → written (answer (length area)) bytes area ≡ sentTrace s ++ drop (length (sentTrace s)) area
   -- a shorter one: "Does the answer fit the area lent for it? 13, place 0."
