@@ -4,28 +4,29 @@ use mathlib.Core.List.{List, [], _∷_}
 use mathlib.Core.Logic.{_⊎_, inl, inr, ⊎-elim}
 use Prim.Native.Nat.{ℕ, _<_}
 use native.Mathlib.Omega.{arith}
-use lib.ListN.{length}
 use Rattle.theory.specs.Faults.{FaultStep}
-use Rattle.theory.specs.Series.{Series, sentTrace, Lower, StepFirst, StepByStep, Precedes}
+use Rattle.theory.specs.Series.{Series, Lower, StepFirst, StepByStep, Precedes}
 
 -- ---- nothing stands before itself
 
+-- by a number, and then by more
+alone : (P : Type 0) (a : ℕ) → (P → ⊥) → (a < a) ⊎ ((a ≡ a) × P) → ⊥
+alone P a f (inl l) = omega (arith, l)
+alone P a f (inr (e, p)) = f p
+
 lower-self : (w : List ℕ) → Lower w w → ⊥
 lower-self [] h = h
-lower-self (a ∷ w) h = ⊎-elim (λ (l : a < a). omega arith) (λ r. lower-self w (r .1)) h
+lower-self (a ∷ w) h = alone _ _ (lower-self w) h
 
 step-self : (s : FaultStep) → StepFirst s s → ⊥
-step-self s h =
-    ⊎-elim (λ (l : s .kind < s .kind). omega arith)
-    (λ r. ⊎-elim (lower-self (s .sent)) (λ t. (let l : s .replacement < s .replacement = t .1 in omega arith)) (r .1)) h
+step-self s h = alone _ _ (⊎-elim (lower-self (s .sent)) (λ t. (let l : s .replacement < s .replacement = t .1 in omega arith))) h
 
 by-step-self : (x : List ℕ) (s : FaultStep) (v : List ℕ) → StepByStep x s v x s v → ⊥
 by-step-self [] s v h = ⊎-elim (step-self s) (λ r. lower-self v (r .1)) h
-by-step-self (a ∷ x) s v h = ⊎-elim (λ (l : a < a). omega arith) (λ r. by-step-self x s v (r .1)) h
+by-step-self (a ∷ x) s v h = alone _ _ (by-step-self x s v) h
 
 pub precedes-not-itself : (s : Series) → Precedes s s → ⊥
-precedes-not-itself s h =
-    ⊎-elim (λ (l : length (sentTrace s) < length (sentTrace s)). omega arith) (λ r. by-step-self (s .before) (s .fault) (s .after) (r .1)) h
+precedes-not-itself s h = alone _ _ (by-step-self (s .before) (s .fault) (s .after)) h
 
 -- ---- one after the other
 
@@ -72,5 +73,5 @@ by-step-then (a ∷ x) (b ∷ y) (c ∷ z) r s t u v w h k =
 
 pub precedes-then : (r s t : Series) → Precedes r s → Precedes s t → Precedes r t
 precedes-then r s t h k =
-    both _ _ _ (length (sentTrace r)) (length (sentTrace s)) (length (sentTrace t))
+    both _ _ _ _ _ _
     (by-step-then (r .before) (s .before) (t .before) (r .fault) (s .fault) (t .fault) (r .after) (s .after) (t .after)) h k

@@ -35,7 +35,7 @@ successor-requires c κs =
     let s = c .before .before .before .before .before .before .before .before in
     let at = c .before .before .before .before .loop in (
       s .pre .0 .rows,
-      at .inv .inside,
+      omega (arith, at .inv .inside, s .pre .1),
       all-below (s .args .t .symbols) (s .args .symbols .now) (s .pre .2) (at .i) (c .before .before .before .loop-test .taken),
     )
 
