@@ -2,8 +2,10 @@
 // the last.
 use crate::runs;
 use output::Output;
+ghost use mathlib.Core.Path.{_≡_};
 ghost use Prim.Native.Nat.{_≤_, _<_};
 ghost use lib.ListN.{length};
+ghost use Rattle.drawing.specs.Runs.{nextState};
 
 // The columns of a line that states take.
 const COLUMNS: usize = 56;
@@ -76,8 +78,10 @@ fn row_run(row: Row, asked: bool, first: usize, last: usize) -> Row
     }
 }
 
-// The first state of the class from a state on; the number of states where there is none.
-pub fn next_state(classes: &[u8], class: u8, from: usize) -> usize {
+// The first state of the class from a state on. Where there is none, a number that is no state's.
+pub fn next_state(classes: &[u8], class: u8, from: usize) -> usize
+    ensures { λ r. ⌜ r ≡ nextState (now (classes .entry)) class from ⌝ }
+{
     let mut q = from;
     while q < classes.len() {
         if classes[q] == class {
@@ -85,7 +89,7 @@ pub fn next_state(classes: &[u8], class: u8, from: usize) -> usize {
         }
         q += 1;
     }
-    classes.len()
+    q
 }
 
 // The states of the class, run by run.

@@ -1,5 +1,5 @@
-// The words of answers and refusals. Each function writes to the output and hands it back. No contract can say what is
-// written; the output of programs is compared with a stored one.
+// The words of answers and refusals. Each function but `has_reason` writes to the output and hands it back. No contract
+// can say what is written; the output of programs is compared with a stored one.
 use basics::Refusal;
 use basics::Writing;
 use classes::Classification;
@@ -13,6 +13,9 @@ use readings::Stepped;
 use readings::Traced;
 use trust::Trust;
 use witness::Witness;
+ghost use mathlib.Core.Path.{_≡_};
+ghost use mathlib.Core.Bool.{_&&_};
+ghost use lib.Dec.{leb};
 
 // A refusal, as `refused`, its number and its place.
 pub fn refusal(out: Output, r: Refusal) -> Output {
@@ -49,11 +52,13 @@ fn body_reason(out: Output, number: usize) -> Output {
 }
 
 // Whether a refusal has this number.
-pub fn has_reason(number: usize) -> bool {
-    match number {
-        1..=28 => true,
-        _ => false,
+pub fn has_reason(number: usize) -> bool
+    ensures { λ r. ⌜ r ≡ (leb 1 number && leb number 28) ⌝ }
+{
+    if number < 1 {
+        return false;
     }
+    number <= 28
 }
 
 // What is wrong where a refusal has this number, in words.
