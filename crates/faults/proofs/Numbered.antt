@@ -2,12 +2,13 @@
 use mathlib.Core.Path.{_≡_, sym, ap, _∙_}
 use mathlib.Core.Bool.{true, false}
 use Prim.Native.Nat.{ℕ, _+_, _*_, _/_, _%_, _^_, _≤_}
-use native.Mathlib.Nat.{mod-lt, mod-eq-of-lt, mod-one, one-mul, zero-lt-suc, le-antisymm, add-comm}
+use native.Mathlib.Nat.{mod-lt, mod-one, one-mul, zero-lt-suc, le-antisymm, add-comm}
 use native.Mathlib.Omega.{arith}
 use lib.Bits.{bitOr, or-shifted-r}
-use lib.Pow.{pow-pos, mod-pow-add, lt-of-le-ones}
+use lib.Pow.{pow-pos, mod-pow-add}
 use borrow.Author.Tests.{eqb-true, eqb-false}
-use Rattle.theory.specs.Faults.{kinds, allFaults, holds}
+use Rattle.theory.specs.Faults.{kinds, holds}
+use Rattle.faults.specs.Kinds.{setOf}
 
 -- the bits of the number below this rank, and no other
 abbrev pub Below : ℕ → ℕ → ℕ → Type 0
@@ -29,8 +30,8 @@ module _ (number rank : ℕ) {bits : ℕ} (below : Below number rank bits) where
       let z : number / 2 ^ rank % 2 ≡ 0 = omega (arith, n, mod-lt (number / 2 ^ rank) (zero-lt-suc 1)) in
       below ∙ rw (more, z) (omega arith)
 
-  pub below-all : number ≤ allFaults → rank ≤ kinds → kinds ≤ rank → bits ≡ number
-  below-all l h m = below ∙ ap (λ (j : ℕ). number % 2 ^ j) (le-antisymm h m) ∙ mod-eq-of-lt (lt-of-le-ones kinds l)
+  pub below-all : rank ≤ kinds → kinds ≤ rank → bits ≡ setOf number
+  below-all h m = below ∙ ap (λ (j : ℕ). number % 2 ^ j) (le-antisymm h m)
 
 pub below-none : (number : ℕ) {bits : ℕ} → bits ≡ 0 → Below number 0 bits
 below-none number e = e ∙ sym (mod-one number)

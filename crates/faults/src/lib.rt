@@ -11,10 +11,10 @@ ghost use lib.Bits.{bitOr};
 ghost use Rattle.theory.specs.Lists.{find};
 ghost use Rattle.theory.specs.Automaton.{run};
 ghost use Rattle.theory.specs.Monitor.{stateLimit, symbolLimit};
-ghost use Rattle.theory.specs.Faults.{kinds, allFaults, stepOf, seconds, holds, steps};
+ghost use Rattle.theory.specs.Faults.{kinds, stepOf, seconds, holds, steps};
 ghost use Rattle.monitor.specs.Format.{Rows, graph};
 ghost use Rattle.square.specs.Square.{never, HasRows};
-ghost use Rattle.faults.specs.Kinds.{rankOf, bitOf};
+ghost use Rattle.faults.specs.Kinds.{rankOf, kindOf, bitOf, setOf};
 ghost use Rattle.faults.specs.Steps.{traceOf, stepFor, Inside, Ranged, costOf, costing, Attained, Cheapest};
 ghost use Rattle.faults.specs.Looks.{Upto, OfFirst, OfKind, OfHeld, OfSet, firsts, secondFrom, Suited};
 ghost use Rattle.faults.specs.Rest.{stepsOnward, Placed, stepAt, rest};
@@ -30,10 +30,9 @@ pub enum Kind {
 // How many kinds of fault there are.
 pub const KINDS: usize = 4;
 
-// The kind of a rank: the kinds in the written order.
+// The kind of a rank: the kinds in the written order, and the last for a rank that is no kind's.
 pub fn kind_at(rank: usize) -> Kind
-    requires { ⌜ rank < kinds ⌝ }
-    ensures { λ r. ⌜ rankOf r ≡ rank ⌝ }
+    ensures { λ r. ⌜ r ≡ kindOf rank ⌝ }
 {
     match rank {
         0 => Kind::Loss,
@@ -43,11 +42,13 @@ pub fn kind_at(rank: usize) -> Kind
     }
 }
 
-// Whether the bit of this rank is set in the number.
+// Whether the bit of this rank is set in the number, which has 64 bits.
 fn has_bit(number: usize, rank: usize) -> bool
-    requires { ⌜ rank < kinds ⌝ }
     ensures { λ r. ⌜ r ≡ holds number rank ⌝ }
 {
+    if rank >= 64 {
+        return false;
+    }
     (number >> rank) & 1 == 1
 }
 
@@ -96,8 +97,7 @@ impl FaultSet {
 
     // The set that a number stands for: each kind whose bit the number has.
     pub fn of(number: usize) -> Self
-        requires { ⌜ number ≤ allFaults ⌝ }
-        ensures { λ r. ⌜ r .bits ≡ number ⌝ }
+        ensures { λ r. ⌜ r .bits ≡ setOf number ⌝ }
     {
         let mut set = Self::empty();
         let mut rank = 0;
@@ -119,7 +119,6 @@ impl FaultSet {
 
     // Whether the set has the kind of this rank.
     pub fn has(self, rank: usize) -> bool
-        requires { ⌜ rank < kinds ⌝ }
         ensures { λ r. ⌜ r ≡ holds (self .bits) rank ⌝ }
     {
         has_bit(self.bits, rank)

@@ -5,6 +5,7 @@ use native.Mathlib.Omega.{arith}
 use borrow.Author.Needs.{needs}
 use borrow.Author.Tests.{not-true, not-false, le-leb, lt-leb}
 use Rattle.theory.specs.Faults.{allFaults}
+use Rattle.faults.proofs.ByKind.{set-is}
 use Rattle.certificate.proofs.check_table.Statement.{statement}
 use Rattle.certificate.proofs.check_table.Tie as tie
 
@@ -24,7 +25,7 @@ returns-3 c =
     let l : c .before .before .before .before .before .before .before .before .args .set ≤ allFaults = omega
     (arith, c .before .before .before .before .if1 .left) in
     let known = sym (c .before .before .before .is-reading .ensures) ∙ not-false _ (c .before .before .if2 .left) in
-    rw (le-leb _ _ l, known, ← c .before .of .ensures) (c .judge-blocks .ensures)
+    rw (le-leb _ _ l, known, ← set-is (c .before .of .ensures) l) (c .judge-blocks .ensures)
 
 pub check-table-spec : {M : Type 1} → statement M
 check-table-spec =

@@ -2,11 +2,15 @@
 use mathlib.Core.Path.{sym, _∙_}
 use borrow.Author.Needs.{needs}
 use Rattle.theory.specs.Lists.{anyIn}
+use Rattle.faults.proofs.ByKind.{ranked}
 use Rattle.certificate.proofs.parts_if_held.Statement.{statement}
 use Rattle.certificate.proofs.parts_if_held.Tie as tie
 
 returns : tie.Need-returns
-returns c = rw (sym (c .before .before .before .has .ensures) ∙ c .before .before .if1 .taken, ← c .before .kind-at .ensures) (c .parts-of-kind .ensures)
+returns c =
+    let at = c .before .before in
+    let rank = ranked (c .before .kind-at .ensures) (at .before .before .before .before .pre .3) in
+    rw (sym (at .before .has .ensures) ∙ at .if1 .taken, ← rank) (c .parts-of-kind .ensures)
 
 returns-2 : tie.Need-returns-2
 unfolding anyIn

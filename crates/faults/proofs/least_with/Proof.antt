@@ -7,6 +7,7 @@ use Rattle.theory.specs.Faults.{FaultStep}
 use Rattle.theory.proofs.Below.{clash}
 use Rattle.monitor.specs.Format.{automatonOf}
 use Rattle.faults.proofs.AtMostTwo.{count-is}
+use Rattle.faults.proofs.ByKind.{ranked}
 use Rattle.faults.proofs.Cheapest.{cheapest-within, cheapest-same, upto-goes-on, upto-passes}
 use Rattle.faults.proofs.Looks.{covers-least}
 use Rattle.faults.proofs.least_with.Statement.{statement}
@@ -16,8 +17,10 @@ returns : tie.Need-returns
 returns c =
     let c₇ = c .before .before .before .before .before .before .before in
     let held = sym (c₇ .before .has .ensures) ∙ c₇ .if1 .taken in
-    let cheapest = rw (c .before .before .before .before .before .before .kind-at .ensures) at (c .before .cost-of-kind .ensures) in
-    upto-goes-on (c₇ .before .before .before .before .pre .1 .1 .1 .1 .1)
+    let s = c₇ .before .before .before .before in
+    let rank = ranked (c .before .before .before .before .before .before .kind-at .ensures) (s .pre .1 .1 .0) in
+    let cheapest = rw rank at (c .before .cost-of-kind .ensures) in
+    upto-goes-on (s .pre .1 .1 .1 .1 .1)
     (cheapest-same (λ s h. h .1) (λ s h. (held, h)) (cheapest-within _ cheapest)) (c .least-of2 .ensures)
 
 returns-2 : tie.Need-returns-2
@@ -26,7 +29,8 @@ returns-2 c =
     let a = s .args in
     let made = c .before .before .before .fault-of in
     let count = count-is (made .result .sent) (made .ensures .1 1 (omega arith) (omega arith) .sent-in .count-most) in
-    let covered = rw (c .before .before .before .before .kind-at .ensures) at (ap (λ (s : FaultStep). length (s .sent)) (made .ensures .0)) in
+    let rank = ranked (c .before .before .before .before .kind-at .ensures) (s .pre .1 .1 .0) in
+    let covered = rw rank at (ap (λ (s : FaultStep). length (s .sent)) (made .ensures .0)) in
     upto-passes (s .pre .1 .1 .1 .1 .1)
     (λ t h.
     covers-least (automatonOf (a .n) (a .k) (a .nexts .now)) (a .square .now) (a .p) (a .rank) (a .k)

@@ -3,6 +3,7 @@ use mathlib.Core.Path.{_∙_}
 use borrow.Author.Needs.{needs}
 use Rattle.monitor.specs.Opening.{monitorIn}
 use Rattle.square.specs.declared.Test.the-variants.{Differ}
+use Rattle.faults.proofs.ByKind.{ranked}
 use Rattle.faults.proofs.Looks.{suited}
 use Rattle.witness.specs.Search.{automatonIn}
 use Rattle.witness.proofs.Tables.{table-posed}
@@ -31,7 +32,7 @@ returns c =
     let said = c .finding-of .ensures ∙ w .find-first .ensures .0 in
     let found = marks-answer (s .pre .0) (set .result .bits) _ (a .square .now) (s .pre .1) (s .pre .4) said in
     let none = w .before .before .before .before .empty .ensures in
-    alone (monitorIn (a .t) (a .marks) (a .nexts)) (a .rank) (kind .result) (kind .ensures) none (set .ensures) found
+    alone (monitorIn (a .t) (a .marks) (a .nexts)) (a .rank) (kind .result) (ranked (kind .ensures) (s .pre .3)) none (set .ensures) found
 
 pub column-of-spec : {M : Type 1} → statement M
 column-of-spec =

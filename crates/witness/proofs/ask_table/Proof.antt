@@ -5,6 +5,7 @@ use native.Mathlib.Omega.{arith}
 use borrow.Author.Needs.{needs}
 use borrow.Author.Tests.{not-true, not-false, le-leb, lt-leb}
 use Rattle.theory.specs.Faults.{allFaults}
+use Rattle.faults.proofs.ByKind.{set-is}
 use Rattle.witness.proofs.ask_table.Statement.{statement}
 use Rattle.witness.proofs.ask_table.Tie as tie
 
@@ -35,7 +36,7 @@ returns-4 c =
     let known = sym (r .before .before .before .is-reading .ensures) ∙ not-false _ (r .before .before .if2 .left) in
     let its = sym (r .before .is-of-reading .ensures) ∙ not-false _ (r .if3 .left) in
     let e = c .before .before .search-reading .ensures in
-    rw (le-leb _ _ l, known, its, ← c .before .before .before .before .of .ensures) e
+    rw (le-leb _ _ l, known, its, ← set-is (c .before .before .before .before .of .ensures) l) e
 
 pub ask-table-spec : {M : Type 1} → statement M
 ask-table-spec =

@@ -3,7 +3,7 @@ use mathlib.Core.Path.{ap, _∙_}
 use Prim.Native.Nat.{ℕ}
 use borrow.Author.Needs.{needs}
 use Rattle.theory.specs.Faults.{stepOf}
-use Rattle.faults.proofs.ByKind.{second-in}
+use Rattle.faults.proofs.ByKind.{ranked, second-in}
 use Rattle.faults.proofs.Cursor.step.Statement.{statement}
 use Rattle.faults.proofs.Cursor.step.Tie as tie
 
@@ -11,7 +11,7 @@ returns : tie.Need-returns
 returns c =
     let at = c .before .before .args .self in
     let e = c .fault-of .ensures in (
-      e .0 ∙ ap (λ (rank : ℕ). stepOf rank (at .first) (at .second)) (c .before .kind-at .ensures),
+      e .0 ∙ ap (λ (rank : ℕ). stepOf rank (at .first) (at .second)) (ranked (c .before .kind-at .ensures) (c .before .before .pre)),
       λ k p. e .1 k (p .first-in) (second-in (at .rank) (p .first-in) (p .second-in)),
     )
 
