@@ -56,18 +56,26 @@ fn fill(descriptor: i32, space: &mut [u8], most: usize) -> Filled {
     Filled::Longer
 }
 
-// Reads the input into the first bytes of a space that is lent, which has SIZE bytes at least.
+// Reads the input into the first bytes of a space that is lent, which has SIZE bytes at least: of a longer input the
+// first SIZE. Standard error has told a failure.
+pub fn read_first(program: Program, space: &mut [u8]) -> Filled {
+    let filled = fill(libc::STDIN_FILENO, space, SIZE);
+    match filled {
+        Filled::Failed => output::failure(program, b"standard input"),
+        _ => {}
+    }
+    filled
+}
+
+// The same for a program that refuses a longer input itself.
 pub fn read(program: Program, space: &mut [u8]) -> Input {
-    match fill(libc::STDIN_FILENO, space, SIZE) {
+    match read_first(program, space) {
         Filled::Whole { length } => Input::Whole { length },
         Filled::Longer => Input::Refused(Refusal {
             number: 26,
             place: 0,
         }),
-        Filled::Failed => {
-            output::failure(program, b"standard input");
-            Input::Failed
-        }
+        Filled::Failed => Input::Failed,
     }
 }
 

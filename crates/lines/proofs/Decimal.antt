@@ -1,10 +1,13 @@
--- The fewest digits that hold a number are its decimal.
+-- The fewest digits that hold a number are its decimal; how many a number has at most.
 use mathlib.Core.Path.{_≡_, refl, subst, _∙_}
+use mathlib.Core.Bool.{Bool, true, false, cond}
+use mathlib.Core.List.{[], _∷_, _++_}
 use mathlib.Core.Logic.{⊎-elim}
 use Prim.Native.Nat.{ℕ, zero, suc, _+_, _-_, _/_, _%_, _^_, _≤_, _<_}
 use native.Mathlib.Nat.{pow-succ', pow-le-pow-right, mod-eq-of-lt, mod-lt, div-lt-iff-lt-mul, le-div-iff-mul-le}
 use native.Mathlib.Omega.{arith}
 use lib.ListN.{length, length-append}
+use lib.Dec.{ltb}
 use borrow.Author.Tests.{lt-ltb, le-ltb}
 use Rattle.theory.proofs.Below.{lt-or-le}
 use Rattle.io.specs.Digits.{glyph, digits, Fewest}
@@ -50,3 +53,17 @@ fewest-short n k h f =
     absurd (omega (arith, g, p, h))))
     (λ (s : k ≤ 20). s)
     (lt-or-le 20 k)
+
+digits-few : (width k n : ℕ) → n < 10 ^ suc k → length (decimalIn width n) ≤ suc k
+digits-few zero k n h = omega arith
+digits-few (suc w) zero n h = (let s : n < 10 = h in rw (lt-ltb n 10 s) (omega arith))
+digits-few (suc w) (suc k) n h =
+    go (ltb n 10) (digits-few w k (n / 10) (div-lt-iff-lt-mul (omega arith) .1 (omega (arith, h, pow-succ' 10 (suc k)))))
+  where
+    go : (b : Bool) → length (decimalIn w (n / 10)) ≤ suc k → length (cond b ((48 + n) ∷ []) (decimalIn w (n / 10) ++ ((48 + n % 10) ∷ []))) ≤ suc (suc k)
+    go true few = omega arith
+    go false few = omega (arith, length-append (decimalIn w (n / 10)) ((48 + n % 10) ∷ []), few)
+
+-- a number below ten to the k + 1 has at most k + 1 digits
+pub decimal-short : (k n : ℕ) → n < 10 ^ suc k → length (decimal n) ≤ suc k
+decimal-short k n h = digits-few (suc n) k n h

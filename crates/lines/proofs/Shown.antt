@@ -3,18 +3,14 @@ use mathlib.Core.Path.{_≡_, refl, sym, ap, _∙_}
 use mathlib.Core.List.{List, [], _∷_, _++_}
 use mathlib.Core.Option.{Option, none, some}
 use Prim.Native.Nat.{ℕ, zero, suc, _≤_, _<_, _^_}
-use native.Mathlib.Nat.{zero-add}
-use native.Mathlib.Omega.{arith}
-use lib.ListN.{length, getD, take, drop, length-take}
-use lib.Seq.{take-length}
-use borrow.Author.Tests.{le-leb, lt-leb}
+use lib.ListN.{length, getD, take, drop}
 use Rattle.theory.specs.Lists.{each}
 use Rattle.theory.specs.Answer.{Answer, refused, answered, asks, written}
 use Rattle.theory.specs.Monitor.{Monitor, reading, monitorability}
 use Rattle.theory.specs.Faults.{kinds}
 use Rattle.theory.specs.Series.{Series}
 use Rattle.theory.specs.Computed.{extentOf, firstWitness, distance}
-use Rattle.theory.proofs.Answer.{written-over, asks-values, asks-other, asks-refuses}
+use Rattle.theory.proofs.Answer.{asks-values, asks-other, asks-refuses}
 use Rattle.basics.specs.declared.Refusal.{Refusal}
 use Rattle.monitor.specs.Format.{monitorOf}
 use Rattle.monitor.specs.Questions.{tableQuestions, judgeAnswer}
@@ -28,6 +24,7 @@ use Rattle.immunity.specs.Findings.{summaryFigures, columnFigures, CardAnswer, 
 use Rattle.immunity.proofs.Columns.{card-asks}
 use Rattle.lines.specs.Text.{ascii, decimal}
 use Rattle.lines.specs.Line.{distanceText, distanceTexts, refusalLine, ruleLine, lineAnswer, findingText, columnTexts, shownLine, Put}
+use Rattle.lines.proofs.Copied.{text-counted, text-inside, text-refused, text-fits, text-written}
 
 -- ---- the texts of columns by what their findings answer
 
@@ -116,31 +113,23 @@ module _ (limit : ℕ) (b : List ℕ) (card : LinkCard) (e : carded card ≡ car
 
 -- the line of a rule, put at the front of a buffer
 module _ (limit rule : ℕ) (body : List ℕ) {before after : List ℕ} {to : ℕ} (p : Put (ruleLine limit rule body) before 0 after to) where
-  line-length : to ≡ length (ruleLine limit rule body)
-  line-length = p .ends ∙ zero-add (length (ruleLine limit rule body))
-
-  line-held : take to after ≡ ruleLine limit rule body
-  line-held = p .holds
-
   pub line-counted : to ≡ length (take to after)
-  line-counted = line-length ∙ sym (ap length line-held)
+  line-counted = text-counted p
 
   pub line-inside : to ≤ length after
-  line-inside = (let x = line-counted ∙ length-take to after in omega (arith, x))
+  line-inside = text-inside p
 
   module _ (area : List ℕ) where
     pub line-refused : length area < to → refused 13 0 ≡ lineAnswer limit rule body (length area)
     unfolding lineAnswer
-    line-refused h = rw (← line-length, lt-leb to (length area) h)
+    line-refused h = text-refused p area h
 
     module _ (h : to ≤ length area) where
       pub line-fits : answered (to ∷ []) ≡ lineAnswer limit rule body (length area)
       unfolding lineAnswer
-      line-fits = rw (← line-length, le-leb to (length area) h)
+      line-fits = text-fits p area h
 
       pub line-written : take (length (take to after)) (take to after) ++ drop (length (take to after)) area ≡ written
           (lineAnswer limit rule body (length area)) (ruleLine limit rule body) area
-      line-written =
-          ap (λ (l : List ℕ). take (length l) l ++ drop (length l) area) line-held
-          ∙ ap (λ (l : List ℕ). l ++ drop (length (ruleLine limit rule body)) area) (take-length (ruleLine limit rule body))
-          ∙ written-over (ruleLine limit rule body) area (sym line-fits)
+      unfolding lineAnswer
+      line-written = text-written p area h

@@ -59,16 +59,24 @@ judgedLine rule (answered values) m = cardLine rule m
 unfoldable pub ruleLine : ℕ → ℕ → List ℕ → List ℕ
 ruleLine limit rule body = judgedLine rule (judgeAnswer limit body) (monitorOf body)
 
--- writing a line asks 13 and answers its length
+-- writing a text asks 13 and answers its length
+abbrev pub textAnswer : List ℕ → ℕ → Answer (List ℕ)
+textAnswer text room = asks (question13 (length text) room ∷ []) (length text ∷ [])
+
+-- writing a line
 unfoldable pub lineAnswer : ℕ → ℕ → List ℕ → ℕ → Answer (List ℕ)
-lineAnswer limit rule body room =
-    asks (question13 (length (ruleLine limit rule body)) room ∷ []) (length (ruleLine limit rule body) ∷ [])
+lineAnswer limit rule body room = textAnswer (ruleLine limit rule body) room
 
 -- ---- layers
 
 -- longer than every line: seven fields of at most 20 bytes with a byte behind each are 147
 abbrev pub lineRoom : ℕ
 lineRoom = 256
+
+-- no line is longer, as rule numbers have two bytes and no other number of a line has more than five digits:
+-- proofs/Lengths.antt
+abbrev pub lineMost : ℕ
+lineMost = 41
 
 -- a text was put behind the first `at` bytes of a buffer and ends at `to`
 pub record Put (text before : List ℕ) (at : ℕ) (after : List ℕ) (to : ℕ) : Type 0 where

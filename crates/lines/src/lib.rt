@@ -22,7 +22,7 @@ ghost use Rattle.lines.specs.Line.{ruleLine, lineAnswer, lineRoom, Put};
 const LINE_ROOM: usize = 256;
 
 // Puts bytes behind the first `at` bytes of the buffer, and answers where they end.
-fn put(bytes: &[u8], buffer: &mut [u8], at: usize) -> usize
+pub fn put(bytes: &[u8], buffer: &mut [u8], at: usize) -> usize
     requires { ⌜ at + length (now bytes) ≤ length (now buffer) ⌝ }
     ensures { λ r. ⌜ Put (now (bytes .entry)) (now (buffer .entry)) at (now (buffer .exit)) r ⌝ }
 {
@@ -35,7 +35,7 @@ fn put(bytes: &[u8], buffer: &mut [u8], at: usize) -> usize
 }
 
 // A number in decimal.
-fn put_number(n: usize, buffer: &mut [u8], at: usize) -> usize
+pub fn put_number(n: usize, buffer: &mut [u8], at: usize) -> usize
     requires { ⌜ at + 20 ≤ length (now buffer) ⌝ }
     ensures { λ r. ⌜ Put (decimal n) (now (buffer .entry)) at (now (buffer .exit)) r
         × (r ≤ at + 20) ⌝ }

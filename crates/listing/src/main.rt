@@ -1,40 +1,20 @@
 // Reads a collection from standard input and prints the listing: a header and a line for each entry.
-use basics::Refusal;
 use basics::Writing;
-use collection::Collected;
-use input::Input;
+use input::Filled;
 use output::Output;
 use output::Program;
 
-// The line of a rule; no line is longer than the area.
-fn print_line(out: Output, rule: usize, body: &[u8]) -> Output {
-    let mut area = [0u8; 256];
-    let Writing::Written { length } = lines::write_line(rule, body, &mut area) else {
-        return out;
-    };
-    out.text(basics::part(&area, 0, length))
-}
-
-fn print_lines(out: Output, file: &[u8], count: usize) {
-    let mut after = out.text(b"rule states class loss corruption repeat swap\n");
-    let mut i = 0;
-    while i < count {
-        let rule = collection::rule_number(file, i);
-        after = print_line(after, rule, collection::body(file, i));
-        i += 1;
-    }
-}
-
-fn print_refusal(out: Output, r: Refusal) {
-    out.text(b"collection refused ")
-        .number(r.number)
-        .text(b"\n");
-}
-
+// Writes the listing of the input, or of its first bytes where it is longer than it may be. That the area holds every
+// listing is a theorem, so nothing is refused.
 fn list(out: Output, file: &[u8]) {
-    match collection::judge(file) {
-        Collected::Accepted { count } => print_lines(out, file, count),
-        Collected::Refused(r) => print_refusal(out, r),
+    let mut area = [0u8; listing_text::LISTING_ROOM];
+    match listing_text::write(file, &mut area) {
+        Writing::Written { length } => {
+            out.text(basics::part(&area, 0, length));
+        }
+        Writing::Refused(_) => {
+            output::complaint(Program::Listing, b"the listing is longer than its area")
+        }
     }
 }
 
@@ -68,10 +48,10 @@ fn read_arguments(space: &mut [u8]) -> Asked {
 }
 
 fn answer(out: Output, space: &mut [u8]) {
-    match input::read(Program::Listing, space) {
-        Input::Whole { length } => list(out, basics::part(space, 0, length)),
-        Input::Refused(r) => print_refusal(out, r),
-        Input::Failed => {}
+    match input::read_first(Program::Listing, space) {
+        Filled::Whole { length } => list(out, basics::part(space, 0, length)),
+        Filled::Longer => list(out, basics::part(space, 0, input::SIZE)),
+        Filled::Failed => {}
     }
 }
 
