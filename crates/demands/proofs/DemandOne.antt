@@ -27,6 +27,7 @@ use Rattle.trust.specs.Trust.{trustFigures, trustAnswer, trustTrace}
 use Rattle.certificate.specs.Questions.{certificateQuestions, certificateAnswer}
 use Rattle.blocks.specs.Made.{blocksFigures, blocksAnswer}
 use Rattle.lines.specs.Line.{ruleLine, lineAnswer}
+use Rattle.listing_text.specs.Listing.{listingText, listingAnswer}
 use Rattle.demands.specs.DemandOne.{FirstNo, Judged, Lent, columnOf, DemandOne}
 
 -- a refusal is the first no
@@ -113,6 +114,13 @@ pub column-asks : (limit : ℕ) (body : List ℕ) (c : ℕ) → c < kinds
 unfolding cardAnswer
 column-asks limit body c l = one-at (λ i. asks (tableQuestions limit body) (columnFigures i (monitorOf body))) kinds c (refused 0 0) l
 
+-- writing the listing asks for room alone
+listing-lent : (limit : ℕ) (file area : List ℕ)
+    → Lent (question13 (length (listingText limit file)) (length area) ∷ []) (length (listingText limit file) ∷ []) (listingAnswer limit file (length area))
+    (listingText limit file) area
+unfolding listingAnswer
+listing-lent limit file area = asks-lent [] (length (listingText limit file) ∷ []) (listingText limit file) area _ refl
+
 pub demand-one : (limit : ℕ) (body file area : List ℕ) → DemandOne limit body file area
 unfolding judgeAnswer collectionAnswer classifyAnswer stepAnswer traceAnswer faultAnswer trustAnswer certificateAnswer blocksAnswer lineAnswer writeAnswer
 demand-one limit body file area =
@@ -133,6 +141,7 @@ demand-one limit body file area =
       blocks = λ d. asks-lent (table ++ (question10 d ∷ [])) (blocksFigures m) (madeBlocks m d) area (statesOf body)
           (sym (length-values (statesOf body) (lowestAlike m d)));
       line = λ rule. asks-lent [] (length (ruleLine limit rule body) ∷ []) (ruleLine limit rule body) area _ refl;
+      listing = listing-lent limit file area;
       writer = λ rules lengths bodies. asks-lent (givenQuestions limit rules lengths bodies) (length (fileOf rules lengths bodies) ∷ [])
           (fileOf rules lengths bodies) area _ refl;
     }

@@ -23,6 +23,7 @@ use Rattle.trust.specs.Trust.{trustQuestions, trustFigures, trustAnswer, trustT
 use Rattle.certificate.specs.Questions.{certificateQuestions, certificateAnswer}
 use Rattle.blocks.specs.Made.{blocksQuestions, blocksFigures, blocksAnswer}
 use Rattle.lines.specs.Line.{ruleLine, lineAnswer}
+use Rattle.listing_text.specs.Listing.{listingText, listingAnswer}
 
 -- every question of the list is answered yes
 abbrev pub AllYes : List Question → Type 0
@@ -106,6 +107,10 @@ pub record DemandOne (limit : ℕ) (body file area : List ℕ) : Type 0 where
       → Lent (question13 (length (ruleLine limit rule body)) (length area) ∷ [])
       (length (ruleLine limit rule body) ∷ [])
       (lineAnswer limit rule body (length area)) (ruleLine limit rule body) area
+  -- the whole listing of a file, which tells a refusal of the collection as well, is asked 13 alone
+  pub listing : Lent (question13 (length (listingText limit file)) (length area) ∷ [])
+      (length (listingText limit file) ∷ [])
+      (listingAnswer limit file (length area)) (listingText limit file) area
   -- what is handed to the writer is asked 27, 21, 23, 28, each body 1 to 8, and 13, and answers the file's length
   pub writer : (rules lengths bodies : List ℕ)
       → Lent (writeQuestions limit rules lengths bodies (length area)) (length (fileOf rules lengths bodies) ∷ [])

@@ -11,3 +11,4 @@ pub mod Limits
 pub mod Certificates
 pub mod Collections
 pub mod Passes
+pub mod Listings

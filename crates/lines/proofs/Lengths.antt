@@ -60,7 +60,8 @@ module _ {limit : ℕ} {m : Monitor} (w : WellFormed limit m) (small : Five (hor
       go none e = omega arith
       go (some s) e =
           let g = m .automaton in
-          let l = first-harms g (differ m 3) (faultsOf m set) (w .closed) (steps-good g set) (m .start) (w .start-in) (steps-rise set (g .symbols)) s e .within in
+          let f = first-harms g (differ m 3) (faultsOf m set) (w .closed) (steps-good g set) (m .start) (w .start-in) (steps-rise set (g .symbols)) s e in
+          let l = f .within in
           let n = near in
           five-digits (length (sentTrace s)) (omega (arith, l, n, small))
 

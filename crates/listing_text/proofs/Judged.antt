@@ -18,7 +18,8 @@ use Rattle.lines.specs.Text.{ascii, decimal}
 use Rattle.lines.specs.Line.{lineMost}
 use Rattle.lines.proofs.Decimal.{decimal-short}
 use Rattle.lines.proofs.Lengths.{Five, Told, told-by}
-use Rattle.listing_text.specs.Listing.{inputLimit, question26, headerText, entryLine, acceptedText, refusedText, listingQuestions, judgedText, listingText, listingRoom}
+use Rattle.listing_text.specs.Listing.{inputLimit, question26, listingQuestions, listingText, listingRoom}
+use Rattle.listing_text.specs.Listing.{headerText, entryLine, acceptedText, refusedText, judgedText}
 use Rattle.listing_text.proofs.Texts.{entry-short}
 
 -- what question 21 leaves

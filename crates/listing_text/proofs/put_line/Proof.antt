@@ -16,7 +16,8 @@ add-result c =
     let k = c .before .before .before .before .before in
     let s = k .before .before .before .before .before .before in
     let rule = k .before .before .before .rule-number .ensures in
-    let short = entry-line-short stateLimit (s .args .file .now) (s .args .i) (omega arith) (s .pre .0) (rule .0) (rule .1) (k .before .before .body .ensures) in
+    let body = k .before .before .body .ensures in
+    let short = entry-line-short stateLimit (s .args .file .now) (s .args .i) (omega arith) (s .pre .0) (rule .0) (rule .1) body in
     let ends = line-ends stateLimit _ _ short (s .args .buffer .now) (s .args .at) (s .pre .1)
     (sym (ap lengthWritten (c .before .length .given .1)) ∙ k .write-line .ensures .0) (k .write-line .ensures .1) in
     search needs
@@ -39,7 +40,8 @@ returns-2 c =
     let k = c .before .before .before .before in
     let s = k .before .before .before .before .before .before in
     let rule = k .before .before .before .rule-number .ensures in
-    let short = entry-line-short stateLimit (s .args .file .now) (s .args .i) (omega arith) (s .pre .0) (rule .0) (rule .1) (k .before .before .body .ensures) in
+    let body = k .before .before .body .ensures in
+    let short = entry-line-short stateLimit (s .args .file .now) (s .args .i) (omega arith) (s .pre .0) (rule .0) (rule .1) body in
     absurd (line-taken stateLimit _ _ short (s .args .buffer .now) (s .args .at) (s .pre .1)
     (sym (ap lengthWritten (c .enum-told .given .1)) ∙ k .write-line .ensures .0))
 
