@@ -21,7 +21,6 @@ use Rattle.writer.specs.Writing.{givenBody, placedAt, bodyQuestions, givenQuest
 use Rattle.writer.proofs.Given.{written-asked}
 use Rattle.classes.specs.Classify.{classifyAnswer}
 use Rattle.readings.specs.Readings.{stepAnswer, traceAnswer}
-use Rattle.witness.specs.Figures.{witnessAnswer}
 use Rattle.immunity.specs.Findings.{faultAnswer, cardAnswer}
 use Rattle.trust.specs.Trust.{trustAnswer}
 use Rattle.certificate.specs.Questions.{certificateAnswer}
@@ -64,7 +63,7 @@ module _ (limit other : ℕ) (b : List ℕ) (alike : Alike limit other (statesOf
   line-same rule = rw judged-same
 
   result-same : SameResult limit other b
-  unfolding classifyAnswer stepAnswer traceAnswer faultAnswer trustAnswer witnessAnswer certificateAnswer blocksAnswer cardAnswer lineAnswer
+  unfolding classifyAnswer stepAnswer traceAnswer faultAnswer trustAnswer certificateAnswer blocksAnswer cardAnswer lineAnswer
   result-same = record {
     judged = judged-same;
     classes = lent-same (λ room. rw two-same) refl;
@@ -72,7 +71,6 @@ module _ (limit other : ℕ) (b : List ℕ) (alike : Alike limit other (statesOf
     trace = λ d w. rw two-same;
     faults = λ set d. lent-same (λ room. rw two-same) refl;
     trusts = λ set d v. lent-same (λ room. rw two-same) refl;
-    witness = λ test set d. lent-same (λ room. rw two-same) refl;
     certificate = λ set d c. rw two-same;
     blocks = λ d. lent-same (λ room. rw two-same) refl;
     card = rw two-same;

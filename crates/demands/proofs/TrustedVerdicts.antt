@@ -6,7 +6,7 @@ use Prim.Native.Nat.{ℕ, _<_, zero-le}
 use native.Mathlib.Omega.{arith}
 use borrow.Author.Tests.{le-leb, lt-ltb}
 use Rattle.theory.specs.Answer.{answered, asks}
-use Rattle.theory.specs.Monitor.{Monitor, WellFormed, reading}
+use Rattle.theory.specs.Monitor.{Monitor, WellFormed, reading, verdictsOf}
 use Rattle.theory.specs.Faults.{allFaults}
 use Rattle.theory.specs.Series.{Series, sentTrace, receivedTrace}
 use Rattle.theory.specs.Trust.{Trusted, FirstMisreading}
@@ -59,13 +59,13 @@ module _ (limit : ℕ) (b : List ℕ) (e : judgeAnswer limit b ≡ answered []) 
       let t = there (firstMisreading m d set v) (λ h. n (trusted-exactly m d v set w .0 h)) in
       (t .0, misreading-first m d v set w (t .0) (t .1))
 
-  module _ (a : Askable set d) (l : v < d) where
+  module _ (a : Askable set d) (l : v < verdictsOf d) where
     -- what is left to be asked is 13
     left : (room : ℕ) → trustAnswer limit b set d v room ≡ asks (roomQuestions (firstMisreading m d set v) room) (trustFigures m d set v)
     unfolding trustAnswer
     left room =
         accepted-asks limit b (trustQuestions set d v (firstMisreading m d set v) room) (trustFigures m d set v) e
-        ∙ rw (le-leb set allFaults (a .set-most), known d (a .reading-known), lt-ltb v d l)
+        ∙ rw (le-leb set allFaults (a .set-most), known d (a .reading-known), lt-ltb v (verdictsOf d) l)
 
     given : (s : Series) → FirstMisreading m d set v s → Told m d (trustAnswer limit b set d v) (trustTrace b set d v) s
     given s f = (let h = computed s f in asks-told m d s (λ room. left room ∙ rw h) (ap witnessTrace h))

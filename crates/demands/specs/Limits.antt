@@ -12,8 +12,6 @@ use Rattle.monitor.specs.Questions.{noValues, judgeAnswer}
 use Rattle.writer.specs.Writing.{givenBody, fileOf, writeAnswer}
 use Rattle.classes.specs.Classify.{classList, classifyAnswer}
 use Rattle.readings.specs.Readings.{stepAnswer, traceAnswer}
-use Rattle.square.specs.declared.Test.{Test}
-use Rattle.witness.specs.Figures.{witnessTrace, firstBy, witnessAnswer}
 use Rattle.immunity.specs.Findings.{faultAnswer, faultTrace, cardAnswer}
 use Rattle.trust.specs.Trust.{trustAnswer, trustTrace}
 use Rattle.certificate.specs.Questions.{certificateAnswer}
@@ -38,9 +36,6 @@ pub record SameResult (limit other : ℕ) (body : List ℕ) : Type 0 where
   pub trace : (d : ℕ) (w : List ℕ) → traceAnswer limit body d w ≡ traceAnswer other body d w
   pub faults : (set d : ℕ) → SameLent limit other (λ l. faultAnswer l body set d) (λ l. faultTrace body set d)
   pub trusts : (set d v : ℕ) → SameLent limit other (λ l. trustAnswer l body set d v) (λ l. trustTrace body set d v)
-  pub witness : (test : Test) (set d : ℕ)
-      → SameLent limit other (λ l. witnessAnswer l body test set d)
-      (λ l. witnessTrace (firstBy test (monitorOf body) d set))
   pub certificate : (set d : ℕ) (c : List ℕ)
       → certificateAnswer limit body set d c ≡ certificateAnswer other body set d c
   pub blocks : (d : ℕ) → SameLent limit other (λ l. blocksAnswer l body d) (λ l. madeBlocks (monitorOf body) d)

@@ -6,7 +6,7 @@ use mathlib.Core.Logic.{_↔_}
 use mathlib.Core.Option.{none, some}
 use Prim.Native.Nat.{ℕ, _<_}
 use Rattle.theory.specs.Answer.{answered}
-use Rattle.theory.specs.Monitor.{Monitor, reading}
+use Rattle.theory.specs.Monitor.{Monitor, reading, verdictsOf}
 use Rattle.theory.specs.Series.{Series, sentTrace}
 use Rattle.theory.specs.Trust.{Trusted, TrustedUnderAny, FirstMisreading}
 use Rattle.monitor.specs.Format.{monitorOf}
@@ -25,11 +25,11 @@ pub data Believed (m : Monitor) (d set v : ℕ) : FaultFigures → List ℕ → 
 -- `limit` is the greatest number of states
 pub record TrustedVerdicts (limit : ℕ) (b : List ℕ) (set d v : ℕ) : Type 0 where
   -- yes is said exactly if the verdict is trusted, whatever the area
-  pub yes-exactly : (room : ℕ) → Askable set d → v < d
+  pub yes-exactly : (room : ℕ) → Askable set d → v < verdictsOf d
       → (trustAnswer limit b set d v room ≡ answered none) ↔ Trusted (monitorOf b) d set v
   -- else there is a first witness against it, which is told where the area lent holds it
   pub untrusted : ¬ (Trusted (monitorOf b) d set v) → (s : Series) × FirstMisreading (monitorOf b) d set v s
-  pub given : Askable set d → v < d → (s : Series) → FirstMisreading (monitorOf b) d set v s
+  pub given : Askable set d → v < verdictsOf d → (s : Series) → FirstMisreading (monitorOf b) d set v s
       → Told (monitorOf b) d (trustAnswer limit b set d v) (trustTrace b set d v) s
   -- an answer, with an area of any length, is right: yes, or the first witness
   pub answers : (room : ℕ) (values : FaultFigures) → trustAnswer limit b set d v room ≡ answered values
@@ -38,6 +38,6 @@ pub record TrustedVerdicts (limit : ℕ) (b : List ℕ) (set d v : ℕ) : Type 0
   pub first : (s t : Series) → FirstMisreading (monitorOf b) d set v s → FirstMisreading (monitorOf b) d set v t → s ≡ t
   -- "a table is immune exactly if every verdict of the chosen reading is trustworthy"
   pub immune : (room : ℕ) → Askable set d
-      → (faultAnswer limit b set d room ≡ answered none) ↔ ((u : ℕ) → u < d → Trusted (monitorOf b) d set u)
+      → (faultAnswer limit b set d room ≡ answered none) ↔ ((u : ℕ) → u < verdictsOf d → Trusted (monitorOf b) d set u)
   -- "trust under one fault is trust under any number, each from sent to received"
   pub any-number : Trusted (monitorOf b) d set v ↔ TrustedUnderAny (monitorOf b) d set v

@@ -43,11 +43,13 @@ pub second-in : (rank : ℕ) {k a b : ℕ} → a < k → b < seconds rank k → 
 second-in zero l h = omega arith
 second-in (suc zero) l h = h
 second-in (suc (suc zero)) l h = omega arith
-second-in (suc (suc (suc rank))) l h = h
+second-in (suc (suc (suc zero))) l h = h
+second-in (suc (suc (suc (suc rank)))) l h = absurd (omega arith)
 
 -- and there is one, where there is a symbol
-pub second-some : (rank : ℕ) {k : ℕ} → 0 < k → 0 < seconds rank k
-second-some zero l = omega arith
-second-some (suc zero) l = l
-second-some (suc (suc zero)) l = omega arith
-second-some (suc (suc (suc rank))) l = l
+pub second-some : (rank : ℕ) {k : ℕ} → rank < kinds → 0 < k → 0 < seconds rank k
+second-some zero low l = omega arith
+second-some (suc zero) low l = l
+second-some (suc (suc zero)) low l = omega arith
+second-some (suc (suc (suc zero))) low l = l
+second-some (suc (suc (suc (suc rank)))) low l = absurd (omega arith)

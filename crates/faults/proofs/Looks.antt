@@ -118,24 +118,24 @@ module _ (g : Automaton) (square : List ℕ) (p : ℕ) (closed : Closed g) (lp :
       either x y z h = ⊎-elim (λ (l : z < x). inr (omega (arith, h, l))) (λ l. inl l) (lt-or-le z x)
 
   -- a swap of falling symbols costs what that of the same rising does
-  by-rising : (c : ℕ) → Ultrametric (g .states) square → (a b : ℕ) → a < k → b < k → (s : FaultStep) → s ≡ stepOf (suc (suc (suc c))) a b
-      → AsCheap (Looked Differ (suc (suc (suc c))) k) s
+  by-rising : Ultrametric (g .states) square → (a b : ℕ) → a < k → b < k → (s : FaultStep) → s ≡ stepOf 3 a b → AsCheap (Looked Differ 3 k) s
   unfolding run
-  by-rising c u a b la lb s e =
+  by-rising u a b la lb s e =
       ⊎-elim
       (λ (l : b < a).
       let x = closed .next-in (g .next p a) b (closed .next-in p a lp la) lb in
       let y = closed .next-in (g .next p b) a (closed .next-in p b lp lb) la in
       let turned = u .symmetric (g .next (g .next p b) a) (g .next (g .next p a) b) y x in
-      (stepOf (suc (suc (suc c))) b a, (b, lb, (a, la, (omega (arith, l), refl))), rw e (plus-mono 2 (omega (arith, turned)))))
-      (λ (l : a ≤ b). itself (suc (suc (suc c))) Differ la l lb s e)
+      (stepOf 3 b a, (b, lb, (a, la, (omega (arith, l), refl))), rw e (plus-mono 2 (omega (arith, turned)))))
+      (λ (l : a ≤ b). itself 3 Differ la l lb s e)
       (lt-or-le b a)
 
   pub enough : (test : Test) (rank : ℕ) → Suited test (g .states) square → (s : FaultStep) → OfKind rank k s → AsCheap (Looked test rank k) s
   enough Differ zero suit s h = itself zero Differ (h .1) zero-le (h .2 .1) s (h .2 .2 .1)
   enough Differ (suc zero) suit s h = by-zero (suit refl) (h .0) (h .2 .0) (h .1) (h .2 .1) s (h .2 .2 .1)
   enough Differ (suc (suc zero)) suit s h = itself (suc (suc zero)) Differ (h .1) zero-le (h .2 .1) s (h .2 .2 .1)
-  enough Differ (suc (suc (suc c))) suit s h = by-rising c (suit refl) (h .0) (h .2 .0) (h .1) (h .2 .1) s (h .2 .2 .1)
+  enough Differ (suc (suc (suc zero))) suit s h = by-rising (suit refl) (h .0) (h .2 .0) (h .1) (h .2 .1) s (h .2 .2 .1)
+  enough Differ (suc (suc (suc (suc c)))) suit s h = absurd (omega (arith, h .2 .1))
   enough (Misread v) rank suit s h = itself rank (Misread v) (h .1) zero-le (h .2 .1) s (h .2 .2 .1)
 
 -- what is looked at is of the kind
@@ -153,7 +153,8 @@ pub second-most : (test : Test) (rank : ℕ) {k a : ℕ} → a < k → secondFro
 second-most Differ zero l = zero-le
 second-most Differ (suc zero) l = zero-le
 second-most Differ (suc (suc zero)) l = zero-le
-second-most Differ (suc (suc (suc c))) l = omega (arith, l)
+second-most Differ (suc (suc (suc zero))) l = omega (arith, l)
+second-most Differ (suc (suc (suc (suc c)))) l = zero-le
 second-most (Misread v) rank l = zero-le
 
 -- ---- the steps of a set, rank by rank
@@ -185,13 +186,15 @@ pub covers-same : (rank a b : ℕ) → length (stepOf rank a b .sent) ≡ length
 covers-same zero a b = refl
 covers-same (suc zero) a b = refl
 covers-same (suc (suc zero)) a b = refl
-covers-same (suc (suc (suc c))) a b = refl
+covers-same (suc (suc (suc zero))) a b = refl
+covers-same (suc (suc (suc (suc c)))) a b = refl
 
 covers-short : (rank : ℕ) → length (stepOf rank 0 0 .sent) ≤ 2
 covers-short zero = omega arith
 covers-short (suc zero) = omega arith
 covers-short (suc (suc zero)) = omega arith
-covers-short (suc (suc (suc c))) = le-refl 2
+covers-short (suc (suc (suc zero))) = le-refl 2
+covers-short (suc (suc (suc (suc c)))) = omega arith
 
 -- a step costs at least the symbols that it covers
 pub covers-least : (g : Automaton) (square : List ℕ) (p rank k : ℕ) {bound : ℕ} → bound < length (stepOf rank 0 0 .sent)

@@ -82,7 +82,7 @@ module _ (set k : ℕ) where
     one-less =
         rest-is at low
         ∙ ap (λ (xs : List FaultStep). (xs ++ laterSymbols k (at .rank) (at .first)) ++ laterKinds)
-        (between-first (stepWith (at .rank) (at .first)) (placed .second-in))
+        (between-first (stepWith (at .rank) (at .first)) (placed .second-in low))
 
     moved : (to : Cursor) → to .rank < kinds → stepAt at ∷ laid to ≡ stepAt at ∷ rest set k to
     moved to l = ap (λ (xs : List FaultStep). stepAt at ∷ xs) (sym (rest-is to l))
@@ -113,7 +113,7 @@ pub record Fresh (set rank : ℕ) (at : Cursor) : Type 0 where
 
 module _ {set rank : ℕ} {at : Cursor} (f : Fresh set rank at) where
   pub fresh-placed : (k : ℕ) → 0 < k → Placed k at
-  fresh-placed k h = rw (f .first-none, f .second-none) (record { first-in = h; second-in = second-some (at .rank) h })
+  fresh-placed k h = rw (f .first-none, f .second-none) (record { first-in = h; second-in = λ low. second-some (at .rank) low h })
 
   pub fresh-held : at .rank < kinds → holds set (at .rank) ≡ true → (k : ℕ) → 0 < k → rest set k at ≡ stepsOnward set k rank
   fresh-held l e k h =

@@ -47,7 +47,8 @@ abbrev pub secondFrom : Test → ℕ → ℕ → ℕ
 secondFrom Differ zero a = 0
 secondFrom Differ (suc zero) a = 0
 secondFrom Differ (suc (suc zero)) a = 0
-secondFrom Differ (suc (suc (suc c))) a = a
+secondFrom Differ (suc (suc (suc zero))) a = a
+secondFrom Differ (suc (suc (suc (suc c)))) a = 0
 secondFrom (Misread v) c a = 0
 
 -- what makes them enough: the order of a pair does not matter, and what tells two states apart tells one of them from

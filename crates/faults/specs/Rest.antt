@@ -39,10 +39,10 @@ stepsOnward set k rank = between rank kinds (stepsIfHeld set k)
 
 -- ---- from a cursor on
 
--- the symbols at a cursor are among k
+-- the symbols at a cursor are among k; behind the last kind there is no second one
 pub record Placed (k : ℕ) (at : Cursor) : Type 0 where
   pub first-in : at .first < k
-  pub second-in : at .second < seconds (at .rank) k
+  pub second-in : at .rank < kinds → at .second < seconds (at .rank) k
 
 -- the fault step at a cursor
 abbrev pub stepAt : Cursor → FaultStep

@@ -8,7 +8,7 @@ use lib.Dec.{eqb, leb, ltb}
 use Rattle.theory.specs.Below.{first}
 use Rattle.theory.specs.Answer.{Question, Answer, answered, asks}
 use Rattle.theory.specs.Faults.{allFaults}
-use Rattle.theory.specs.Monitor.{symbolLimit}
+use Rattle.theory.specs.Monitor.{symbolLimit, verdictsOf}
 use Rattle.basics.specs.Refusals.{refusal}
 use Rattle.monitor.specs.Format.{statesOf, symbolsOf, startOf, drawnMarks, nexts}
 use Rattle.monitor.specs.declared.Judgement.{Judgement}
@@ -88,9 +88,9 @@ question12 k w = ofEach 12 0 (firstNotBelow k w) (length w)
 abbrev pub question13 : ℕ → ℕ → Question
 question13 size room = record { yes = leb size room; number = 13; place = 0 }
 
--- "a verdict that is not of the chosen reading is 19 at place 0" (02, note 3): a mark is below 3, a class below 6
+-- "a verdict that is not of the chosen reading is 19 at place 0" (02, note 3)
 abbrev pub question19 : ℕ → ℕ → Question
-question19 d v = record { yes = ltb v d; number = 19; place = 0 }
+question19 d v = record { yes = ltb v (verdictsOf d); number = 19; place = 0 }
 
 -- questions 1 to 5 are about sizes and the start, 6 to 8 about marks and next states
 abbrev pub headQuestions : ℕ → List ℕ → List Question

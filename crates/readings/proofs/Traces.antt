@@ -16,9 +16,13 @@ module _ (m : Monitor) (d q : ℕ) where
   unfolding reading
   reads-mark e = rw (eq-eqb d 3 e)
 
-  pub reads-class : {r : ℕ} → (d ≡ 3 → ⊥) → r ≡ class m q → r ≡ reading m d q
+  pub reads-class : {r : ℕ} → d ≡ 6 → r ≡ class m q → r ≡ reading m d q
   unfolding reading
-  reads-class n e = rw (ne-eqb d 3 n) e
+  reads-class six e = rw six e
+
+  pub reads-none : (d ≡ 3 → ⊥) → (d ≡ 6 → ⊥) → 0 ≡ reading m d q
+  unfolding reading
+  reads-none three six = rw (ne-eqb d 3 three, ne-eqb d 6 six)
 
 -- a state that is equal to another reads the same
 pub reads-at : (m : Monitor) (d : ℕ) {p q r : ℕ} → p ≡ q → r ≡ reading m d p → r ≡ reading m d q

@@ -11,7 +11,7 @@ ghost use lib.Dec.{eqb};
 ghost use lib.ListN.{length, getD, drop};
 ghost use Rattle.theory.specs.Below.{values};
 ghost use Rattle.theory.specs.Answer.{asks};
-ghost use Rattle.theory.specs.Monitor.{reading, stateLimit};
+ghost use Rattle.theory.specs.Monitor.{reading, verdictsOf, stateLimit};
 ghost use Rattle.theory.specs.Extent.{number, missing};
 ghost use Rattle.monitor.specs.Opening.{monitorIn, TableIn};
 ghost use Rattle.monitor.specs.Questions.{firstNotBelow};
@@ -53,7 +53,20 @@ pub fn is_reading(domain: usize) -> bool
     domain == 6
 }
 
-// What state q reads.
+// How many verdicts a reading has: three marks, six classes; what is no reading has none.
+pub fn verdicts_of(domain: usize) -> usize
+    ensures { λ r. ⌜ r ≡ verdictsOf domain ⌝ }
+{
+    if domain == 3 {
+        return 3;
+    }
+    if domain == 6 {
+        return 6;
+    }
+    0
+}
+
+// What state q reads; 0 where the domain is no reading.
 fn read(marks: &[u8], nexts: &[u8], t: Shape, domain: usize, q: usize) -> usize
     requires { ⌜ TableIn t marks nexts
         × (q < t .states) ⌝ }
@@ -62,7 +75,10 @@ fn read(marks: &[u8], nexts: &[u8], t: Shape, domain: usize, q: usize) -> usize
     if domain == 3 {
         return marks[q] as usize;
     }
-    classes::class_of(marks, nexts, t, q) as usize
+    if domain == 6 {
+        return classes::class_of(marks, nexts, t, q) as usize;
+    }
+    0
 }
 
 // What every state reads, into the first places of the area.
@@ -77,7 +93,13 @@ pub fn write_readings(marks: &[u8], nexts: &[u8], t: Shape, domain: usize, area:
         bytes::copy(marks, area);
         return;
     }
-    classes::write_all_classes(marks, nexts, t, area);
+    if domain == 6 {
+        classes::write_all_classes(marks, nexts, t, area);
+        return;
+    }
+    let n = t.states;
+    let none = [0u8; STATE_LIMIT];
+    bytes::copy(&none[..n], area);
 }
 
 // Reads the symbols from a state on, up to the first verdict. A verdict is kept: the symbols behind it change nothing.

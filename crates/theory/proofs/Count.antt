@@ -6,13 +6,12 @@ use mathlib.Core.Logic.{_↔_}
 use Prim.Native.Nat.{ℕ, zero, suc, _+_, _≤_, _<_, zero-le}
 use native.Mathlib.Nat.{zero-add}
 use native.Mathlib.Omega.{arith}
-use lib.Dec.{eqb}
 use lib.ListN.{length, take, length-append}
 use lib.Seq.{take-at}
 use borrow.Author.Tests.{eqb-true, eqb-false, eq-eqb}
 use Rattle.theory.specs.Extent.{Extent, number, missing, ShortestLength}
 use Rattle.theory.specs.Automaton.{Trace, run}
-use Rattle.theory.specs.Monitor.{Monitor, WellFormed, marked, class, reading}
+use Rattle.theory.specs.Monitor.{Monitor, WellFormed, marked, class, byReading, reading}
 use Rattle.theory.specs.Count.{Decided, later, countFrom}
 use Rattle.theory.proofs.Reach.{run-in, lasts, run-append, trace-left, trace-right}
 
@@ -94,7 +93,7 @@ module _ (m : Monitor) where
   unfolding reading class
   reads-alike d p q some e = go (m .verdict q) refl some
     where
-      go : (v : ℕ) → m .verdict q ≡ v → 0 < v → cond (eqb d 3) (m .verdict p) (class m p) ≡ cond (eqb d 3) (m .verdict q) (class m q)
+      go : (v : ℕ) → m .verdict q ≡ v → 0 < v → byReading d (m .verdict p) (class m p) ≡ byReading d (m .verdict q) (class m q)
       go zero f z = absurd (omega arith)
       go (suc zero) f z = rw (e, f)
       go (suc (suc v)) f z = rw (e, f)

@@ -63,17 +63,19 @@ kind-is (suc (suc (suc zero))) a b l = refl
 kind-is (suc (suc (suc (suc c)))) a b l = absurd (omega arith)
 
 -- of one kind: a lower first symbol stands first, and then a lower second one
-firsts-rise : (c a e b f : ℕ) → a < e → StepFirst (stepOf c a b) (stepOf c e f)
-firsts-rise zero a e b f l = inr (refl, inl (inl l))
-firsts-rise (suc zero) a e b f l = inr (refl, inl (inl l))
-firsts-rise (suc (suc zero)) a e b f l = inr (refl, inl (inl l))
-firsts-rise (suc (suc (suc c))) a e b f l = inr (refl, inl (inl l))
+firsts-rise : (c k a e b f : ℕ) → a < e → f < seconds c k → StepFirst (stepOf c a b) (stepOf c e f)
+firsts-rise zero k a e b f l m = inr (refl, inl (inl l))
+firsts-rise (suc zero) k a e b f l m = inr (refl, inl (inl l))
+firsts-rise (suc (suc zero)) k a e b f l m = inr (refl, inl (inl l))
+firsts-rise (suc (suc (suc zero))) k a e b f l m = inr (refl, inl (inl l))
+firsts-rise (suc (suc (suc (suc c)))) k a e b f l m = absurd (omega arith)
 
 seconds-rise : (c k a b f : ℕ) → b < f → f < seconds c k → StepFirst (stepOf c a b) (stepOf c a f)
 seconds-rise zero k a b f l m = absurd (omega arith)
 seconds-rise (suc zero) k a b f l m = inr (refl, inr (refl, l))
 seconds-rise (suc (suc zero)) k a b f l m = absurd (omega arith)
-seconds-rise (suc (suc (suc c))) k a b f l m = inr (refl, inl (inr (refl, inl l)))
+seconds-rise (suc (suc (suc zero))) k a b f l m = inr (refl, inl (inr (refl, inl l)))
+seconds-rise (suc (suc (suc (suc c)))) k a b f l m = absurd (omega arith)
 
 -- a step out of a list of one
 only : (s t : FaultStep) → In s (t ∷ []) → s ≡ t
@@ -98,7 +100,7 @@ steps-rise set k = rising-each StepFirst kinds (ofKind set k) (λ c _. one c (ho
         let b = in-each x (seconds c k) (λ b. stepOf c a b ∷ []) i in
         let f = in-each y (seconds c k) (λ b. stepOf c e b ∷ []) j in
         over (stepOf c a (b .index)) (stepOf c e (f .index)) x y (only x (stepOf c a (b .index)) (b .here)) (only y (stepOf c e (f .index)) (f .here))
-        (firsts-rise c a e (b .index) (f .index) l))
+        (firsts-rise c k a e (b .index) (f .index) l (f .below)))
     one c false = tt
 
     in-kind : (c : ℕ) (x : FaultStep) → c < kinds → In x (stepsOfKind k c) → x .kind ≡ 2 ^ c
@@ -126,7 +128,8 @@ unfolding Trace
 step-good g zero a b la lb = record { sent-trace = (la, tt); received-trace = tt; covers = le-refl 1; short = omega arith }
 step-good g (suc zero) a b la lb = record { sent-trace = (la, tt); received-trace = (lb, tt); covers = le-refl 1; short = omega arith }
 step-good g (suc (suc zero)) a b la lb = record { sent-trace = (la, tt); received-trace = (la, (la, tt)); covers = le-refl 1; short = omega arith }
-step-good g (suc (suc (suc c))) a b la lb = record { sent-trace = (la, (lb, tt)); received-trace = (lb, (la, tt)); covers = omega arith; short = le-refl 2 }
+step-good g (suc (suc (suc zero))) a b la lb = record { sent-trace = (la, (lb, tt)); received-trace = (lb, (la, tt)); covers = omega arith; short = le-refl 2 }
+step-good g (suc (suc (suc (suc c)))) a b la lb = absurd (omega arith)
 
 pub steps-good : (g : Automaton) (set : ℕ) (s : FaultStep) → In s (steps set (g .symbols)) → Good g s
 steps-good g set s i =
@@ -143,7 +146,8 @@ steps-shrink set k without s i =
     go zero e a b = omega arith
     go (suc zero) e a b = le-refl 1
     go (suc (suc zero)) e a b = absurd (clash e without)
-    go (suc (suc (suc c))) e a b = le-refl 2
+    go (suc (suc (suc zero))) e a b = le-refl 2
+    go (suc (suc (suc (suc c)))) e a b = le-refl 0
 
 wider : (F G k : ℕ) (s : FaultStep) → ((c : ℕ) → holds F c ≡ true → holds G c ≡ true) → In s (steps F k) → In s (steps G k)
 wider F G k s over i = (let h = steps-held F k s i in held-steps G k s h (over (h .place) (h .held)))

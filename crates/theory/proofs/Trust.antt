@@ -9,7 +9,7 @@ use native.Mathlib.Omega.{arith}
 use lib.Dec.{eqb}
 use borrow.Author.Tests.{eqb-true, eqb-false, eq-eqb, ne-eqb, not-true}
 use Rattle.theory.specs.Automaton.{Automaton, run, leads}
-use Rattle.theory.specs.Monitor.{Monitor, WellFormed, classFrom, class, reading, marked}
+use Rattle.theory.specs.Monitor.{Monitor, WellFormed, classFrom, class, reading, verdictsOf, marked}
 use Rattle.theory.specs.Faults.{FaultStep}
 use Rattle.theory.specs.Series.{Series, sentTrace, receivedTrace}
 use Rattle.theory.specs.Distance.{Chained, end, then, reads, faultsOf}
@@ -117,13 +117,13 @@ class-below (suc (suc v)) t f = omega arith
 
 module _ {limit : ℕ} {m : Monitor} (w : WellFormed limit m) where
   -- what a state reads is a verdict of the reading
-  pub reading-below : (d p : ℕ) → (d ≡ 3) ⊎ (d ≡ 6) → p < m .automaton .states → reading m d p < d
+  pub reading-below : (d p : ℕ) → (d ≡ 3) ⊎ (d ≡ 6) → p < m .automaton .states → reading m d p < verdictsOf d
   unfolding reading class
   reading-below d p (inl e) l = rw e (let x = w .verdict-in p l in omega (arith, x))
   reading-below d p (inr e) l = rw e (class-below (m .verdict p) (leads (m .automaton) (marked m 1) p) (leads (m .automaton) (marked m 2) p))
 
   -- a table is immune exactly if every verdict of the reading is trusted
-  pub all-trusted : (d set : ℕ) → (d ≡ 3) ⊎ (d ≡ 6) → Immune m d set ↔ ((v : ℕ) → v < d → Trusted m d set v)
+  pub all-trusted : (d set : ℕ) → (d ≡ 3) ⊎ (d ≡ 6) → Immune m d set ↔ ((v : ℕ) → v < verdictsOf d → Trusted m d set v)
   all-trusted d set k = (
     λ im v l x y f e.
         ⊎-elim (λ (same : reads m d x ≡ reads m d y). same ∙ e) (λ h. absurd (im x (record { received = y; fault = f; differs = h })))

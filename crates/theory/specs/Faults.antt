@@ -39,19 +39,25 @@ kinds = 4
 abbrev pub allFaults : ℕ
 allFaults = 2 ^ kinds - 1
 
--- the fault step of rank c at symbol a; b is the replacement or the neighbour
+-- no fault: nothing sent, nothing received, no kind's bit
+abbrev pub noStep : FaultStep
+noStep = record { kind = 0; sent = []; received = []; replacement = 0 }
+
+-- the fault step of rank c at symbol a; b is the replacement or the neighbour. From rank 4 on there is no kind
 abbrev pub stepOf : ℕ → ℕ → ℕ → FaultStep
 stepOf zero a b = loss a
 stepOf (suc zero) a b = corruption a b
 stepOf (suc (suc zero)) a b = repeat a
-stepOf (suc (suc (suc c))) a b = swap a b
+stepOf (suc (suc (suc zero))) a b = swap a b
+stepOf (suc (suc (suc (suc c)))) a b = noStep
 
--- how many b there are for rank c among k symbols; where a kind has no second symbol, b is 0
+-- how many b there are for rank c among k symbols; where a kind has no second symbol, b is 0 alone
 abbrev pub seconds : ℕ → ℕ → ℕ
 seconds zero k = 1
 seconds (suc zero) k = k
 seconds (suc (suc zero)) k = 1
-seconds (suc (suc (suc c))) k = k
+seconds (suc (suc (suc zero))) k = k
+seconds (suc (suc (suc (suc c)))) k = 0
 
 -- the kind of rank c is in the fault set: "Each fault has its fixed bit"
 abbrev pub holds : ℕ → ℕ → Bool

@@ -4,10 +4,8 @@
 -- proofs/Exact.antt shows that the two say the same.
 use mathlib.Core.Path.{_≡_}
 use mathlib.Core.Bool.{Bool, true, false, cond, _&&_}
-use mathlib.Core.List.{[], _∷_}
 use Prim.Native.Nat.{ℕ, zero, suc, _≤_, _<_}
 use lib.Dec.{eqb}
-use lib.ListN.{getD}
 use Rattle.theory.specs.Below.{any, count}
 use Rattle.theory.specs.Automaton.{Automaton, Closed, Reaches, leads, reachedFrom}
 
@@ -52,9 +50,15 @@ pub data Class (m : Monitor) (q : ℕ) : ℕ → Type 0 where
   ugly : m .verdict q ≡ 0 → ¬ (Finds m 1 q) → ¬ (Finds m 2 q) → Class m q 5
 
 -- "good and positive give pos, bad and negative neg, neutral both, ugly none (definition 10); as numbers these four are
--- 0 to 3"
+-- 0 to 3"; by class: good, bad, positive, negative, neutral, ugly. From 6 on there is no class, and none is given
 abbrev pub weak : ℕ → ℕ
-weak c = getD (0 ∷ 1 ∷ 0 ∷ 1 ∷ 2 ∷ 3 ∷ []) c 3
+weak zero = 0
+weak (suc zero) = 1
+weak (suc (suc zero)) = 0
+weak (suc (suc (suc zero))) = 1
+weak (suc (suc (suc (suc zero)))) = 2
+weak (suc (suc (suc (suc (suc zero))))) = 3
+weak (suc (suc (suc (suc (suc (suc c)))))) = 3
 
 -- "A table is none if any state reachable from the start is ugly (lemma 3), else as its start."
 pub data Monitorability (m : Monitor) : ℕ → Type 0 where
@@ -95,6 +99,14 @@ monitorability m = cond (any (m .automaton .states) (uglyReached m)) 3 (weak (cl
 unfoldable pub statesReached : Monitor → ℕ
 statesReached m = count (m .automaton .states) (reached m)
 
--- what state q reads: its verdict under reading 3, its class under reading 6
+-- what is taken by a reading, 3 or 6 ("Is the reading 3 or 6?"); any other number is no reading
+abbrev pub byReading : ℕ → ℕ → ℕ → ℕ
+byReading d three six = cond (eqb d 3) three (cond (eqb d 6) six 0)
+
+-- what state q reads: its verdict under reading 3, its class under reading 6; 0 under no reading
 unfoldable pub reading : Monitor → ℕ → ℕ → ℕ
-reading m d q = cond (eqb d 3) (m .verdict q) (class m q)
+reading m d q = byReading d (m .verdict q) (class m q)
+
+-- how many verdicts a reading has, numbered from 0: three marks, six classes; none under no reading
+abbrev pub verdictsOf : ℕ → ℕ
+verdictsOf d = byReading d 3 6

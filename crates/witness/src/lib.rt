@@ -296,7 +296,7 @@ fn is_of_reading(test: Test, domain: usize) -> bool
 {
     match test {
         Test::Differ => true,
-        Test::Misread(v) => v < domain,
+        Test::Misread(v) => v < readings::verdicts_of(domain),
     }
 }
 

@@ -16,7 +16,7 @@ add-second : tie.Need-add-second
 add-second c =
     let at = c .before .args .self in
     let p = c .before .pre .1 in
-    omega (arith, second-in (at .rank) (p .first-in) (p .second-in))
+    omega (arith, second-in (at .rank) (p .first-in) (p .second-in (c .before .pre .0)))
 
 returns : tie.Need-returns
 returns c =
@@ -24,7 +24,7 @@ returns c =
     let a = start .args in
     let p = start .pre .1 in
     let e = known (a .k) (c .before .seconds-of .ensures) (ranked (c .before .before .kind-at .ensures) (start .pre .0)) in
-    (next-second (a .set .bits) (a .k) (a .self) (start .pre .0) p, record { first-in = p .first-in; second-in = omega (arith, e, c .if1 .taken) })
+    (next-second (a .set .bits) (a .k) (a .self) (start .pre .0) p, record { first-in = p .first-in; second-in = λ _. omega (arith, e, c .if1 .taken) })
 
 returns-2 : tie.Need-returns-2
 returns-2 c =
@@ -32,7 +32,7 @@ returns-2 c =
     let a = start .args in
     let e = known (a .k) (c .before .before .before .seconds-of .ensures) (ranked (c .before .before .before .before .kind-at .ensures) (start .pre .0)) in (
       next-first (a .set .bits) (a .k) (a .self) (start .pre .0) (start .pre .1) (omega (arith, e, c .before .before .if1 .left)) (c .if2 .taken),
-      record { first-in = c .if2 .taken; second-in = second-some (a .self .rank) (omega (arith, c .if2 .taken)) },
+      record { first-in = c .if2 .taken; second-in = λ low. second-some (a .self .rank) low (omega (arith, c .if2 .taken)) },
     )
 
 returns-3 : tie.Need-returns-3

@@ -12,7 +12,7 @@ returns c =
     let at = c .before .before .args .self in
     let e = c .fault-of .ensures in (
       e .0 ∙ ap (λ (rank : ℕ). stepOf rank (at .first) (at .second)) (ranked (c .before .kind-at .ensures) (c .before .before .pre)),
-      λ k p. e .1 k (p .first-in) (second-in (at .rank) (p .first-in) (p .second-in)),
+      λ k p. e .1 k (p .first-in) (second-in (at .rank) (p .first-in) (p .second-in (c .before .before .pre))),
     )
 
 pub step-spec : {M : Type 1} → statement M
