@@ -9,7 +9,7 @@ use lib.ListN.{length, getD, take, length-take}
 use lib.Seq.{getD-take}
 use borrow.Author.Tests.{eqb-true, eqb-false, eq-eqb, not-true}
 use Rattle.theory.specs.Automaton.{run}
-use Rattle.theory.specs.Monitor.{Monitor, WellFormed, stateLimit, reading}
+use Rattle.theory.specs.Monitor.{Monitor, WellFormed, reading}
 use Rattle.theory.specs.Certificate.{NeverApart, blockOf, sameBlock, alike, lowestAlike}
 use Rattle.theory.proofs.Below.{both-ways, is-true, first-same}
 use Rattle.theory.proofs.Reach.{run-in}
@@ -30,7 +30,7 @@ module _ {n count : ℕ} {square numbers members : List ℕ} (P : Partition n co
   block-is : (q : ℕ) → q < n → blockOf (take n numbers) q ≡ block numbers q
   block-is q lq = getD-take n numbers q 0 lq
 
-  pub blocks-numbered : n ≤ stateLimit → Numbered (length (take n numbers)) (take n numbers)
+  pub blocks-numbered : {limit : ℕ} → n ≤ limit → Numbered limit (length (take n numbers)) (take n numbers)
   blocks-numbered few = record {
     most = omega (arith, blocks-counted, few);
     size = refl;

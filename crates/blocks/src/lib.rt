@@ -22,7 +22,7 @@ ghost use Rattle.blocks.specs.Made.{blocksQuestions, blocksFigures, bloc
 
 // The lowest state of the block of every state, into the first places of the area.
 fn write_lowest(blocks: &[u8], area: &mut [u8])
-    requires { ⌜ Numbered (length (now blocks)) (now blocks)
+    requires { ⌜ Numbered stateLimit (length (now blocks)) (now blocks)
         × (length (now blocks) ≤ length (now area)) ⌝ }
     ensures { λ _. ⌜ now (area .exit)
         ≡ values (length (now (blocks .entry))) (lowestIn (now (blocks .entry)))

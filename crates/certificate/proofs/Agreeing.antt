@@ -10,7 +10,7 @@ use Rattle.theory.specs.Below.{first}
 use Rattle.theory.specs.Lists.{anyIn}
 use Rattle.theory.specs.Automaton.{Automaton, reachedFrom}
 use Rattle.theory.specs.Answer.{answered, asks}
-use Rattle.theory.specs.Monitor.{Monitor, reading, stateLimit}
+use Rattle.theory.specs.Monitor.{Monitor, reading}
 use Rattle.theory.specs.Faults.{steps}
 use Rattle.theory.specs.Certificate.{sameBlock, disagrees, readAlike, parts, parted}
 use Rattle.theory.proofs.Below.{any-same, first-same}
@@ -47,12 +47,13 @@ parted-place m set c {r} e =
     (λ p _ l. ap (λ (b : Bool). b && anyIn (parts (m .automaton) c p) (steps set (m .automaton .symbols))) (exactly-in e p (omega (arith, l))))
 
 -- questions 14 and 15 leave a block number below n for every state
-pub numbered-of : {n : ℕ} {c : List ℕ} → n ≤ stateLimit → asks (question14 n c ∷ question15 n c ∷ []) noValues ≡ answered noValues → Numbered n c
+pub numbered-of : {limit n : ℕ} {c : List ℕ} → n ≤ limit → asks (question14 n c ∷ question15 n c ∷ []) noValues ≡ answered noValues
+    → Numbered limit n c
 numbered-of {n} {c} most e =
     let y = asks-yes (question14 n c) (question15 n c ∷ []) noValues e in
     let z = asks-yes (question15 n c) [] noValues (y .1) in
     let size = eqb-true (length c) n (y .0) in
     record { most = most; size = size; below = λ q l. all-below n c (eqb-true (firstNotBelow n c) (length c) (z .0)) q (omega (arith, size, l)) }
 
-pub numbered-whole : {n : ℕ} {c : List ℕ} → Numbered n c → Numbered (length c) c
-numbered-whole {n} {c} h = subst (λ (l : ℕ). Numbered l c) (sym (h .size)) h
+pub numbered-whole : {limit n : ℕ} {c : List ℕ} → Numbered limit n c → Numbered limit (length c) c
+numbered-whole {limit} {n} {c} h = subst (λ (l : ℕ). Numbered limit l c) (sym (h .size)) h

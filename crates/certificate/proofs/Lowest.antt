@@ -11,7 +11,6 @@ use lib.ListN.{length, getD, set, length-set}
 use lib.Seq.{getD-set-same, getD-set-other}
 use borrow.Author.Tests.{eqb-true, eqb-false, eq-eqb, not-true}
 use Rattle.theory.specs.Below.{first}
-use Rattle.theory.specs.Monitor.{stateLimit}
 use Rattle.theory.specs.Certificate.{blockOf, sameBlock, disagrees}
 use Rattle.theory.proofs.Below.{clash, not-clash, is-true, lt-or-le, first-is, first-le, first-below, first-here}
 use Rattle.theory.proofs.Certificate.{Equivalence, disagrees-at, disagrees-by}
@@ -20,12 +19,13 @@ use Rattle.certificate.specs.Agreeing.{Numbered, lowestIn, Lowest}
 -- ---- entering them, from the highest state down
 
 -- the states from i on have the lowest of these in their block
-pub record Entered (c : List ℕ) (i : ℕ) (low : List ℕ) : Type 0 where
-  pub size : length low ≡ stateLimit
+pub record Entered (limit : ℕ) (c : List ℕ) (i : ℕ) (low : List ℕ) : Type 0 where
+  pub size : length low ≡ limit
   pub upto : i ≤ length c
   pub each : (q : ℕ) → i ≤ q → q < length c → getD low (blockOf c q) 0 ≡ first (λ p. sameBlock c p q) i (length c - i)
 
-pub enter-goes-on : {c low : List ℕ} (i : ℕ) → Numbered (length c) c → i < length c → Entered c (suc i) low → Entered c i (set low (blockOf c i) i)
+pub enter-goes-on : {limit : ℕ} {c low : List ℕ} (i : ℕ) → Numbered limit (length c) c → i < length c → Entered limit c (suc i) low
+    → Entered limit c i (set low (blockOf c i) i)
 unfolding first
 enter-goes-on {c} {low} i numbered l x = record { size = length-set low (blockOf c i) i ∙ x .size; upto = omega (arith, l); each = each }
   where
@@ -45,7 +45,7 @@ enter-goes-on {c} {low} i numbered l x = record { size = length-set low (blockOf
             let later : suc i ≤ q = ⊎-elim (λ (s : i < q). s) (λ (s : q ≤ i). absurd (other (ap (blockOf c) (le-antisymm li s)))) (lt-or-le i q) in
             getD-set-other low (blockOf c i) (blockOf c q) i 0 (λ z. other (sym z)) ∙ x .each q later lq
 
-pub enter-ends : {c low : List ℕ} {i : ℕ} → i ≤ 0 → Entered c i low → Lowest c low
+pub enter-ends : {limit : ℕ} {c low : List ℕ} {i : ℕ} → i ≤ 0 → Entered limit c i low → Lowest limit c low
 enter-ends {c} {low} {i} l x =
     let z : i ≡ 0 = omega arith in
     record {

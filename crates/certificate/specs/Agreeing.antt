@@ -8,7 +8,6 @@ use lib.ListN.{length, getD}
 use Rattle.theory.specs.Below.{first}
 use Rattle.theory.specs.Lists.{anyIn}
 use Rattle.theory.specs.Automaton.{Automaton}
-use Rattle.theory.specs.Monitor.{stateLimit}
 use Rattle.theory.specs.Faults.{steps}
 use Rattle.theory.specs.Certificate.{blockOf, sameBlock, stepAlike, parts}
 use Rattle.state_set.specs.declared.StateSet.{StateSet}
@@ -22,8 +21,8 @@ agreeing Readings g outs c p q = eqb (getD outs p 0) (getD outs q 0)
 agreeing Steps g outs c p q = stepAlike g c p q
 
 -- a block number below n for each of n states, which are within the limit
-pub record Numbered (n : ℕ) (c : List ℕ) : Type 0 where
-  pub most : n ≤ stateLimit
+pub record Numbered (limit n : ℕ) (c : List ℕ) : Type 0 where
+  pub most : n ≤ limit
   pub size : length c ≡ n
   pub below : (q : ℕ) → q < n → blockOf c q < n
 
@@ -31,9 +30,9 @@ pub record Numbered (n : ℕ) (c : List ℕ) : Type 0 where
 abbrev pub lowestIn : List ℕ → ℕ → ℕ
 lowestIn c q = first (λ p. sameBlock c p q) 0 (length c)
 
--- a list that has it, by block number
-pub record Lowest (c low : List ℕ) : Type 0 where
-  pub size : length low ≡ stateLimit
+-- a list of the limit's size that has it, by block number
+pub record Lowest (limit : ℕ) (c low : List ℕ) : Type 0 where
+  pub size : length low ≡ limit
   pub entered : (q : ℕ) → q < length c → getD low (blockOf c q) 0 ≡ lowestIn c q
 
 -- p is in the set, and some fault step from p leads into two blocks

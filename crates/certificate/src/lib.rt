@@ -36,8 +36,8 @@ enum Agreement {
 
 // The lowest state of each block, by block number: the states are entered from the highest down.
 pub fn lowest_states(blocks: &[u8]) -> [u8; STATE_LIMIT]
-    requires { ⌜ Numbered (length (now blocks)) (now blocks) ⌝ }
-    ensures { λ r. ⌜ Lowest (now (blocks .entry)) r ⌝ }
+    requires { ⌜ Numbered stateLimit (length (now blocks)) (now blocks) ⌝ }
+    ensures { λ r. ⌜ Lowest stateLimit (now (blocks .entry)) r ⌝ }
 {
     let mut lowest = [0u8; STATE_LIMIT];
     let mut q = blocks.len();
@@ -50,8 +50,8 @@ pub fn lowest_states(blocks: &[u8]) -> [u8; STATE_LIMIT]
 
 // The lowest state of the block of q.
 pub fn lowest_of(lowest: &[u8], blocks: &[u8], q: usize) -> usize
-    requires { ⌜ Numbered (length (now blocks)) (now blocks)
-        × Lowest (now blocks) (now lowest)
+    requires { ⌜ Numbered stateLimit (length (now blocks)) (now blocks)
+        × Lowest stateLimit (now blocks) (now lowest)
         × (q < length (now blocks)) ⌝ }
     ensures { λ r. ⌜ r ≡ lowestIn (now (blocks .entry)) q ⌝ }
 {
@@ -116,8 +116,8 @@ fn first_disagreeing(
 ) -> usize
     requires { ⌜ Rows stateLimit n k (now nexts)
         × (length (now outputs) ≡ n)
-        × Numbered n (now blocks)
-        × Lowest (now blocks) (now lowest) ⌝ }
+        × Numbered stateLimit n (now blocks)
+        × Lowest stateLimit (now blocks) (now lowest) ⌝ }
     ensures { λ r. ⌜ r
         ≡ first (disagrees (agreeing agreement (graph n k (nexts .entry)) (now (outputs .entry)) (now (blocks .entry)))
         (now (blocks .entry))) 0 n ⌝ }
@@ -298,7 +298,7 @@ fn judge_numbers(blocks: &[u8], n: usize) -> Judgement
 // Questions 16 and 17.
 fn judge_agreement(marks: &[u8], nexts: &[u8], t: Shape, domain: usize, blocks: &[u8]) -> Judgement
     requires { ⌜ TableIn t marks nexts
-        × Numbered (t .states) (now blocks) ⌝ }
+        × Numbered stateLimit (t .states) (now blocks) ⌝ }
     ensures { λ r. let m = monitorIn t (marks .entry) (nexts .entry) in ⌜ judgement r
         ≡ asks (question16 m domain (now (blocks .entry)) ∷ question17 m (now (blocks .entry)) ∷ []) noValues ⌝ }
 {

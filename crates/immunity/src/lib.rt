@@ -107,7 +107,7 @@ fn column_of(
 ) -> Column
     requires { ⌜ TableIn t marks nexts
         × Squared (automatonIn t (now nexts)) (passing Differ (now marks)) (now square)
-        × Explored (automatonIn t (now nexts)) (t .start) count (now order) (now depths)
+        × Explored stateLimit (automatonIn t (now nexts)) (t .start) count (now order) (now depths)
         × (rank < kinds)
         × (horizon (t .states) ≤ length (now area)) ⌝ }
     ensures { λ r. ⌜ finding (r .finding)
@@ -145,7 +145,7 @@ fn columns_of(
 ) -> [Column; KINDS]
     requires { ⌜ TableIn t marks nexts
         × Squared (automatonIn t (now nexts)) (passing Differ (now marks)) (now square)
-        × Explored (automatonIn t (now nexts)) (t .start) count (now order) (now depths)
+        × Explored stateLimit (automatonIn t (now nexts)) (t .start) count (now order) (now depths)
         × (horizon (t .states) ≤ length (now area)) ⌝ }
     ensures { λ r. ⌜ found r ≡ cardAsking [] (monitorIn t (marks .entry) (nexts .entry)) .columns ⌝ }
 {

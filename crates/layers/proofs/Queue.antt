@@ -12,10 +12,9 @@ use lib.Seq.{getD-set-same, getD-set-other}
 use borrow.Author.Tests.{lt-ltb, le-ltb, ltb-true, eq-eqb}
 use Rattle.theory.specs.Below.{count}
 use Rattle.theory.specs.Automaton.{Automaton, Closed, Trace, run}
-use Rattle.theory.specs.Monitor.{stateLimit}
 use Rattle.theory.proofs.Below.{lt-or-le, same-or-not, or-left, or-right, count-le, count-more}
 use Rattle.theory.proofs.Reach.{run-append, trace-append}
-use Rattle.layers.specs.Layers.{far, found, depthAt, Led, Reached, Queue, NoDeeper, Grown, By, Onward, Explored}
+use Rattle.layers.specs.Layers.{found, depthAt, Led, Reached, Queue, NoDeeper, Grown, By, Onward, Explored}
 
 -- ---- traces
 
@@ -38,8 +37,8 @@ led-on g {start} {q} {l} {a} {x} h la e = record {
 
 -- ---- the queue
 
-pub queue-none : {n : ℕ} {order depths : List ℕ} → length order ≡ stateLimit → length depths ≡ stateLimit
-    → ((q : ℕ) → q < n → far ≤ getD depths q 0) → Queue n 0 order depths
+pub queue-none : {limit n : ℕ} {order depths : List ℕ} → length order ≡ limit → length depths ≡ limit
+    → ((q : ℕ) → q < n → limit ≤ getD depths q 0) → Queue limit n 0 order depths
 queue-none lo ld none = record {
   order-size = lo;
   depths-size = ld;
@@ -50,26 +49,26 @@ queue-none lo ld none = record {
   listed = λ q lq l. absurd (omega (arith, l, none q lq));
 }
 
-module _ {n c : ℕ} {order depths : List ℕ} (few : n ≤ stateLimit) (queue : Queue n c order depths) where
+module _ {limit n c : ℕ} {order depths : List ℕ} (few : n ≤ limit) (queue : Queue limit n c order depths) where
   pub queue-few : c ≤ n
-  queue-few = le-trans (queue .counted) (count-le (n) (found depths))
+  queue-few = le-trans (queue .counted) (count-le (n) (found limit depths))
 
   -- each state of the order is found
-  pub listed-found : (i : ℕ) → i < c → depthAt order depths i < far
+  pub listed-found : (i : ℕ) → i < c → depthAt order depths i < limit
   listed-found i l = (let a = queue .shallow i l in let b = queue-few in omega (arith, a, b, l, few))
 
   -- a state found stands in the order
-  pub found-by : {d q : ℕ} → NoDeeper c order depths d → q < n → getD depths q 0 < far → By depths d q
+  pub found-by : {d q : ℕ} → NoDeeper c order depths d → q < n → getD depths q 0 < limit → By limit depths d q
   found-by {d} {q} deep lq l =
       let at = queue .listed q lq l in
       record { is-found = l; near = subst (λ (p : ℕ). getD depths p 0 ≤ d) (at .2) (deep (at .0) (at .1)) }
 
-  pub grown-nothing : {d : ℕ} → NoDeeper c order depths d → Grown n d c c order order depths depths
+  pub grown-nothing : {d : ℕ} → NoDeeper c order depths d → Grown limit n d c c order order depths depths
   grown-nothing deep = record { queue = queue; no-deeper = deep; more = le-refl c; places = λ i l. refl; same = λ q lq l. refl }
 
   -- ---- a state entered
 
-  module _ {x d : ℕ} (lx : x < n) (new : far ≤ getD depths x 0) (low : d ≤ c) (deep : NoDeeper c order depths d) where
+  module _ {x d : ℕ} (lx : x < n) (new : limit ≤ getD depths x 0) (low : d ≤ c) (deep : NoDeeper c order depths d) where
     abbrev order₁ : List ℕ
     order₁ = set order c x
 
@@ -82,8 +81,8 @@ module _ {n c : ℕ} {order depths : List ℕ} (few : n ≤ stateLimit) (queue :
     others : (q : ℕ) → (q ≡ x → ⊥) → getD depths₁ q 0 ≡ getD depths q 0
     others q ne = getD-set-other depths x q d 0 ne
 
-    not-new : (q : ℕ) → getD depths q 0 < far → q ≡ x → ⊥
-    not-new q l e = (let h = subst (λ (p : ℕ). getD depths p 0 < far) e l in omega (arith, h, new))
+    not-new : (q : ℕ) → getD depths q 0 < limit → q ≡ x → ⊥
+    not-new q l e = (let h = subst (λ (p : ℕ). getD depths p 0 < limit) e l in omega (arith, h, new))
 
     place : (i : ℕ) → i < c → getD order₁ i 0 ≡ getD order i 0
     place i l = getD-set-other order c i x 0 (λ e. omega (arith, e, l))
@@ -94,25 +93,25 @@ module _ {n c : ℕ} {order depths : List ℕ} (few : n ≤ stateLimit) (queue :
     -- x is not counted yet, so that there is room for it
     pub entered-room : c < n
     entered-room =
-        let wider : ℕ → Bool = λ q. found depths q || eqb q x in
-        let more = count-more (n) (found depths) wider (λ q _ t. or-left (found depths q) (eqb q x) t) x lx (le-ltb (getD depths x 0) far new)
-        (or-right (found depths x) (eqb x x) (eq-eqb x x refl)) in
+        let wider : ℕ → Bool = λ q. found limit depths q || eqb q x in
+        let more = count-more (n) (found limit depths) wider (λ q _ t. or-left (found limit depths q) (eqb q x) t) x lx (le-ltb (getD depths x 0) limit new)
+        (or-right (found limit depths x) (eqb x x) (eq-eqb x x refl)) in
         let most = count-le (n) wider in
         omega (arith, more, most, queue .counted)
 
-    d-low : d < far
+    d-low : d < limit
     d-low = (let r = entered-room in omega (arith, r, low, few))
 
     newest : depthAt order₁ depths₁ c ≡ d
     newest = rw (getD-set-same order c x 0 (omega (arith, queue .order-size, entered-room, few))) here
 
-    counted : c + 1 ≤ count (n) (found depths₁)
+    counted : c + 1 ≤ count (n) (found limit depths₁)
     counted =
-        let more = count-more (n) (found depths) (found depths₁)
+        let more = count-more (n) (found limit depths) (found limit depths₁)
         (λ q _ t.
-        let l = ltb-true (getD depths q 0) far t in
-        lt-ltb (getD depths₁ q 0) far (rw (others q (not-new q l)) l))
-        x lx (le-ltb (getD depths x 0) far new) (lt-ltb (getD depths₁ x 0) far (rw here d-low)) in
+        let l = ltb-true (getD depths q 0) limit t in
+        lt-ltb (getD depths₁ q 0) limit (rw (others q (not-new q l)) l))
+        x lx (le-ltb (getD depths x 0) limit new) (lt-ltb (getD depths₁ x 0) limit (rw here d-low)) in
         omega (arith, more, queue .counted)
 
     -- a place below c + 1 is an older one, or the new one
@@ -122,7 +121,7 @@ module _ {n c : ℕ} {order depths : List ℕ} (few : n ≤ stateLimit) (queue :
     deep₁ : NoDeeper (c + 1) order₁ depths₁ d
     deep₁ = by-place (λ i. depthAt order₁ depths₁ i ≤ d) (λ i l. rw (older i l) (deep i l)) (rw newest (le-refl d))
 
-    entered-queue : Queue n (c + 1) order₁ depths₁
+    entered-queue : Queue limit n (c + 1) order₁ depths₁
     entered-queue = record {
       order-size = length-set order c x ∙ queue .order-size;
       depths-size = length-set depths x d ∙ queue .depths-size;
@@ -141,7 +140,7 @@ module _ {n c : ℕ} {order depths : List ℕ} (few : n ≤ stateLimit) (queue :
           (same-or-not q x);
     }
 
-    pub entered-grown : Grown n d c (c + 1) order order₁ depths depths₁
+    pub entered-grown : Grown limit n d c (c + 1) order order₁ depths depths₁
     entered-grown = record {
       queue = entered-queue;
       no-deeper = deep₁;
@@ -150,10 +149,10 @@ module _ {n c : ℕ} {order depths : List ℕ} (few : n ≤ stateLimit) (queue :
       same = λ q lq l. others q (not-new q l);
     }
 
-    pub entered-by : By depths₁ d x
+    pub entered-by : By limit depths₁ d x
     entered-by = record { is-found = rw here d-low; near = rw here (le-refl d) }
 
-    pub entered-reached : {g : Automaton} {start : ℕ} → g .states ≡ n → Led g start x d → Reached g start depths → Reached g start depths₁
+    pub entered-reached : {g : Automaton} {start : ℕ} → g .states ≡ n → Led g start x d → Reached limit g start depths → Reached limit g start depths₁
     entered-reached {g} {start} e led old q lq l =
         ⊎-elim (λ (s : q ≡ x). subst (λ (p : ℕ). Led g start p (getD depths₁ p 0)) (sym s) (rw here led))
         (λ ne. rw (others q ne) (old q lq (rw (others q ne) at l)))
@@ -161,9 +160,9 @@ module _ {n c : ℕ} {order depths : List ℕ} (few : n ≤ stateLimit) (queue :
 
 -- ---- one after the other
 
-module _ {n d b c e : ℕ} {order order₁ order₂ depths depths₁ depths₂ : List ℕ}
-    (one : Grown n d b c order order₁ depths depths₁) (two : Grown n d c e order₁ order₂ depths₁ depths₂) where
-  pub grown-twice : Grown n d b e order order₂ depths depths₂
+module _ {limit n d b c e : ℕ} {order order₁ order₂ depths depths₁ depths₂ : List ℕ}
+    (one : Grown limit n d b c order order₁ depths depths₁) (two : Grown limit n d c e order₁ order₂ depths₁ depths₂) where
+  pub grown-twice : Grown limit n d b e order order₂ depths depths₂
   grown-twice = record {
     queue = two .queue;
     no-deeper = two .no-deeper;
@@ -172,24 +171,24 @@ module _ {n d b c e : ℕ} {order order₁ order₂ depths depths₁ depths₂ :
     same = λ q lq l. two .same q lq (rw (one .same q lq l) l) ∙ one .same q lq l;
   }
 
-module _ {n d b c : ℕ} {order order₁ depths depths₁ : List ℕ} (grown : Grown n d b c order order₁ depths depths₁) where
+module _ {limit n d b c : ℕ} {order order₁ depths depths₁ : List ℕ} (grown : Grown limit n d b c order order₁ depths depths₁) where
   -- what was found is still found
-  pub by-kept : {f q : ℕ} → q < n → By depths f q → By depths₁ f q
+  pub by-kept : {f q : ℕ} → q < n → By limit depths f q → By limit depths₁ f q
   by-kept {q = q} lq h = (let e = grown .same q lq (h .is-found) in record { is-found = rw e (h .is-found); near = rw e (h .near) })
 
 -- ---- the successors of a state
 
 -- the successors of p by the symbols below a are entered, at the depth d at most
-pub record Expanding (g : Automaton) (d p before c a : ℕ) (order order₁ depths depths₁ : List ℕ) : Type 0 where
+pub record Expanding (limit : ℕ) (g : Automaton) (d p before c a : ℕ) (order order₁ depths depths₁ : List ℕ) : Type 0 where
   pub upto : a ≤ g .symbols
-  pub grown : Grown (g .states) d before c order order₁ depths depths₁
-  pub onward : Onward g depths₁ d p a
-  pub reached : (start : ℕ) → Reached g start depths → Reached g start depths₁
+  pub grown : Grown limit (g .states) d before c order order₁ depths depths₁
+  pub onward : Onward limit g depths₁ d p a
+  pub reached : (start : ℕ) → Reached limit g start depths → Reached limit g start depths₁
 
-module _ (g : Automaton) (few : g .states ≤ stateLimit) {p before d : ℕ} {order depths : List ℕ} (lp : p < g .states)
-    (queue : Queue (g .states) before order depths) (p-found : getD depths p 0 < far) (is-depth : d ≡ getD depths p 0 + 1)
+module _ {limit : ℕ} (g : Automaton) (few : g .states ≤ limit) {p before d : ℕ} {order depths : List ℕ} (lp : p < g .states)
+    (queue : Queue limit (g .states) before order depths) (p-found : getD depths p 0 < limit) (is-depth : d ≡ getD depths p 0 + 1)
     (deep : NoDeeper before order depths d) where
-  pub expanding-begins : Expanding g d p before before 0 order order depths depths
+  pub expanding-begins : Expanding limit g d p before before 0 order order depths depths
   expanding-begins = record {
     upto = omega arith;
     grown = grown-nothing few queue deep;
@@ -198,18 +197,18 @@ module _ (g : Automaton) (few : g .states ≤ stateLimit) {p before d : ℕ} {or
   }
 
   -- x is the successor by a
-  module _ (closed : Closed g) {c a x : ℕ} {order₁ depths₁ : List ℕ} (h : Expanding g d p before c a order order₁ depths depths₁) (la : a < g .symbols)
+  module _ (closed : Closed g) {c a x : ℕ} {order₁ depths₁ : List ℕ} (h : Expanding limit g d p before c a order order₁ depths depths₁) (la : a < g .symbols)
       (ex : x ≡ g .next p a) where
     x-in : x < g .states
     x-in = rw ex (closed .next-in p a lp la)
 
     -- one more symbol leads to a state found
-    onward-more : {depths₂ : List ℕ} → Onward g depths₂ d p a → By depths₂ d x → Onward g depths₂ d p (a + 1)
+    onward-more : {depths₂ : List ℕ} → Onward limit g depths₂ d p a → By limit depths₂ d x → Onward limit g depths₂ d p (a + 1)
     onward-more {depths₂} old now b l =
-        ⊎-elim (old b) (λ (m : a ≤ b). (let e : a ≡ b = omega (arith, m, l) in subst (λ (y : ℕ). By depths₂ d (g .next p y)) e (rw ex at now)))
+        ⊎-elim (old b) (λ (m : a ≤ b). (let e : a ≡ b = omega (arith, m, l) in subst (λ (y : ℕ). By limit depths₂ d (g .next p y)) e (rw ex at now)))
         (lt-or-le b a)
 
-    pub expanding-old : getD depths₁ x 0 < far → Expanding g d p before c (a + 1) order order₁ depths depths₁
+    pub expanding-old : getD depths₁ x 0 < limit → Expanding limit g d p before c (a + 1) order order₁ depths depths₁
     expanding-old l = record {
       upto = omega arith;
       grown = h .grown;
@@ -217,7 +216,7 @@ module _ (g : Automaton) (few : g .states ≤ stateLimit) {p before d : ℕ} {or
       reached = h .reached;
     }
 
-    module _ (new : far ≤ getD depths₁ x 0) where
+    module _ (new : limit ≤ getD depths₁ x 0) where
       low : d ≤ c
       low =
           let at = queue .listed p lp p-found in
@@ -227,14 +226,14 @@ module _ (g : Automaton) (few : g .states ≤ stateLimit) {p before d : ℕ} {or
       pub expanding-room : c < g .states
       expanding-room = entered-room few (h .grown .queue) x-in new low (h .grown .no-deeper)
 
-      entered : Grown (g .states) d c (c + 1) order₁ (set order₁ c x) depths₁ (set depths₁ x d)
+      entered : Grown limit (g .states) d c (c + 1) order₁ (set order₁ c x) depths₁ (set depths₁ x d)
       entered = entered-grown few (h .grown .queue) x-in new low (h .grown .no-deeper)
 
       -- p is still found, at its depth
       p-kept : getD depths₁ p 0 ≡ getD depths p 0
       p-kept = h .grown .same p lp p-found
 
-      pub expanding-new : Expanding g d p before (c + 1) (a + 1) order (set order₁ c x) depths (set depths₁ x d)
+      pub expanding-new : Expanding limit g d p before (c + 1) (a + 1) order (set order₁ c x) depths (set depths₁ x d)
       expanding-new = record {
         upto = omega arith;
         grown = grown-twice (h .grown) entered;
@@ -249,63 +248,63 @@ module _ (g : Automaton) (few : g .states ≤ stateLimit) {p before d : ℕ} {or
 -- ---- state by state
 
 -- the states before `head` are expanded, and none is more than one deeper than the next
-pub record Exploring (g : Automaton) (start c head : ℕ) (order depths : List ℕ) : Type 0 where
-  pub queue : Queue (g .states) c order depths
-  pub reached : Reached g start depths
-  pub begins : getD depths start 0 ≡ 0
-  pub expanded : (i : ℕ) → i < head → Onward g depths (depthAt order depths i + 1) (getD order i 0) (g .symbols)
+pub record Exploring (limit : ℕ) (g : Automaton) (start c head : ℕ) (order depths : List ℕ) : Type 0 where
+  pub queue : Queue limit (g .states) c order depths
+  pub reached : Reached limit g start depths
+  pub begins : By limit depths 0 start
+  pub expanded : (i : ℕ) → i < head → Onward limit g depths (depthAt order depths i + 1) (getD order i 0) (g .symbols)
   pub deep : head < c → NoDeeper c order depths (depthAt order depths head + 1)
 
-pub exploring-begins : (g : Automaton) {start : ℕ} (order depths : List ℕ) → g .states ≤ stateLimit → start < g .states
-    → length order ≡ stateLimit → length depths ≡ stateLimit → ((q : ℕ) → q < stateLimit → getD depths q 0 ≡ far)
-    → Exploring g start 1 0 (set order 0 start) (set depths start 0)
-exploring-begins g {start} order depths few ls lo ld none = record {
+pub exploring-begins : {limit : ℕ} (g : Automaton) {start : ℕ} (order depths : List ℕ) → g .states ≤ limit → start < g .states
+    → length order ≡ limit → length depths ≡ limit → ((q : ℕ) → q < limit → getD depths q 0 ≡ limit)
+    → Exploring limit g start 1 0 (set order 0 start) (set depths start 0)
+exploring-begins {limit} g {start} order depths few ls lo ld none = record {
   queue = grown .queue;
   reached = entered-reached few empty ls (unfound start ls) (le-refl 0) (λ i l. absurd (not-suc-le-zero l)) {g = g} {start = start} refl (led-start g start)
       (λ q lq l. absurd (omega (arith, l, unfound q lq)));
-  begins = getD-set-same depths start 0 0 (omega (arith, ld, ls, few));
+  begins = entered-by few empty ls (unfound start ls) (le-refl 0) (λ i l. absurd (not-suc-le-zero l));
   expanded = λ i l. absurd (not-suc-le-zero l);
   deep = λ _ i l. (let s = grown .no-deeper i l in omega (arith, s));
 }
   where
-    unfound : (q : ℕ) → q < g .states → far ≤ getD depths q 0
+    unfound : (q : ℕ) → q < g .states → limit ≤ getD depths q 0
     unfound q lq = (let e = none q (omega (arith, lq, few)) in omega (arith, e))
 
-    empty : Queue (g .states) 0 order depths
+    empty : Queue limit (g .states) 0 order depths
     empty = queue-none lo ld unfound
 
-    grown : Grown (g .states) 0 0 1 order (set order 0 start) depths (set depths start 0)
+    grown : Grown limit (g .states) 0 0 1 order (set order 0 start) depths (set depths start 0)
     grown = entered-grown few empty ls (unfound start ls) (le-refl 0) (λ i l. absurd (not-suc-le-zero l))
 
-module _ (g : Automaton) (few : g .states ≤ stateLimit) {start c head : ℕ} {order depths : List ℕ} (h : Exploring g start c head order depths)
+module _ {limit : ℕ} (g : Automaton) (few : g .states ≤ limit) {start c head : ℕ} {order depths : List ℕ} (h : Exploring limit g start c head order depths)
     (l : head < c) where
   pub exploring-fewer : head < g .states
   exploring-fewer = (let s = queue-few few (h .queue) in omega (arith, s, l))
 
-module _ (g : Automaton) (few : g .states ≤ stateLimit) {start c head p : ℕ} {order depths : List ℕ} (h : Exploring g start c head order depths)
+module _ {limit : ℕ} (g : Automaton) (few : g .states ≤ limit) {start c head p : ℕ} {order depths : List ℕ} (h : Exploring limit g start c head order depths)
     (l : head < c) (ep : p ≡ getD order head 0) where
   pub exploring-state : p < g .states
   exploring-state = rw ep (h .queue .inside head l)
 
-  pub exploring-found : getD depths p 0 < far
+  pub exploring-found : getD depths p 0 < limit
   exploring-found = rw ep (listed-found few (h .queue) head l)
 
   pub exploring-deep : NoDeeper c order depths (getD depths p 0 + 1)
   exploring-deep = rw ep (h .deep l)
 
   pub exploring-goes-on : {e : ℕ} {order₁ depths₁ : List ℕ} → Closed g → start < g .states
-      → Grown (g .states) (getD depths p 0 + 1) c e order order₁ depths depths₁
-      → Onward g depths₁ (getD depths p 0 + 1) p (g .symbols) → Reached g start depths₁ → Exploring g start e (head + 1) order₁ depths₁
+      → Grown limit (g .states) (getD depths p 0 + 1) c e order order₁ depths depths₁
+      → Onward limit g depths₁ (getD depths p 0 + 1) p (g .symbols) → Reached limit g start depths₁ → Exploring limit g start e (head + 1) order₁ depths₁
   exploring-goes-on {e} {order₁} {depths₁} closed ls grown onward reached = record {
     queue = grown .queue;
     reached = reached;
-    begins = grown .same start ls (omega (arith, h .begins)) ∙ h .begins;
+    begins = by-kept grown ls (h .begins);
     expanded = λ i m.
         ⊎-elim
         (λ (s : i < head). rw (same i (omega (arith, s, l)), grown .places i (omega (arith, s, l)))
         (λ a la. by-kept grown (closed .next-in (getD order i 0) a (h .queue .inside i (omega (arith, s, l))) la) (h .expanded i s a la)))
         (λ (s : head ≤ i). (let z : head ≡ i = omega (arith, s, m) in
-        subst (λ (j : ℕ). Onward g depths₁ (depthAt order₁ depths₁ j + 1) (getD order₁ j 0) (g .symbols)) z
+        subst (λ (j : ℕ). Onward limit g depths₁ (depthAt order₁ depths₁ j + 1) (getD order₁ j 0) (g .symbols)) z
         (rw (same head l, grown .places head l) (rw ep at onward))))
         (lt-or-le i head);
     deep = λ m i n.
@@ -319,8 +318,8 @@ module _ (g : Automaton) (few : g .states ≤ stateLimit) {start c head p : ℕ}
       same : (i : ℕ) → i < c → depthAt order₁ depths₁ i ≡ depthAt order depths i
       same i m = rw (grown .places i m) (grown .same (getD order i 0) (h .queue .inside i m) (listed-found few (h .queue) i m))
 
-pub exploring-ends : {g : Automaton} {start c head : ℕ} {order depths : List ℕ} → Exploring g start c head order depths → c ≤ head
-    → Explored g start c order depths
+pub exploring-ends : {limit : ℕ} {g : Automaton} {start c head : ℕ} {order depths : List ℕ} → Exploring limit g start c head order depths → c ≤ head
+    → Explored limit g start c order depths
 exploring-ends h l = record {
   queue = h .queue;
   reached = h .reached;

@@ -4,14 +4,14 @@ ghost use Prim.Native.Nat.{ℕ, _+_, _<_};
 ghost use lib.ListN.{getD};
 ghost use Rattle.theory.specs.Monitor.{stateLimit};
 ghost use Rattle.monitor.specs.Format.{Rows, graph};
-ghost use Rattle.layers.specs.Layers.{far, Blank, Reached, Queue, NoDeeper, Grown, Onward, Explored};
+ghost use Rattle.layers.specs.Layers.{Blank, Reached, Queue, NoDeeper, Grown, Onward, Explored};
 
 // The depth of a state that is not found.
 const FAR: u8 = 128;
 
 // An array for the order, or for the depths where no state is found yet.
 pub fn blank() -> [u8; STATE_LIMIT]
-    ensures { λ r. ⌜ Blank r ⌝ }
+    ensures { λ r. ⌜ Blank stateLimit r ⌝ }
 {
     [FAR; STATE_LIMIT]
 }
@@ -28,15 +28,15 @@ fn expand(
 ) -> usize
     requires { ⌜ Rows stateLimit n k (now nexts)
         × (p < n)
-        × Queue n found (now order) (now depths)
-        × (getD (now depths) p 0 < far)
+        × Queue stateLimit n found (now order) (now depths)
+        × (getD (now depths) p 0 < stateLimit)
         × NoDeeper found (now order) (now depths) (getD (now depths) p 0 + 1) ⌝ }
-    ensures grown { λ r. ⌜ Grown n (getD (now (depths .entry)) p 0 + 1) found r
+    ensures grown { λ r. ⌜ Grown stateLimit n (getD (now (depths .entry)) p 0 + 1) found r
         (now (order .entry)) (now (order .exit)) (now (depths .entry)) (now (depths .exit)) ⌝ }
-    ensures onward { λ _. ⌜ Onward (graph n k (nexts .entry)) (now (depths .exit))
+    ensures onward { λ _. ⌜ Onward stateLimit (graph n k (nexts .entry)) (now (depths .exit))
         (getD (now (depths .entry)) p 0 + 1) p k ⌝ }
-    ensures reached { λ _. ⌜ ((start : ℕ) → Reached (graph n k (nexts .entry)) start (now (depths .entry))
-        → Reached (graph n k (nexts .entry)) start (now (depths .exit))) ⌝ }
+    ensures reached { λ _. ⌜ ((start : ℕ) → Reached stateLimit (graph n k (nexts .entry)) start (now (depths .entry))
+        → Reached stateLimit (graph n k (nexts .entry)) start (now (depths .exit))) ⌝ }
 {
     let depth = depths[p] + 1;
     let mut count = found;
@@ -64,9 +64,9 @@ pub fn explore(
 ) -> usize
     requires { ⌜ Rows stateLimit n k (now nexts)
         × (start < n)
-        × Blank (now order)
-        × Blank (now depths) ⌝ }
-    ensures { λ r. ⌜ Explored (graph n k (nexts .entry)) start r (now (order .exit)) (now (depths .exit)) ⌝ }
+        × Blank stateLimit (now order)
+        × Blank stateLimit (now depths) ⌝ }
+    ensures { λ r. ⌜ Explored stateLimit (graph n k (nexts .entry)) start r (now (order .exit)) (now (depths .exit)) ⌝ }
 {
     depths[start] = 0;
     order[0] = start as u8;

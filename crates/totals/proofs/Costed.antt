@@ -8,19 +8,18 @@ use native.Mathlib.Omega.{arith}
 use lib.ListN.{length, getD, set, length-set}
 use lib.Seq.{getD-set-same, getD-set-other}
 use Rattle.theory.specs.Automaton.{Automaton, run}
-use Rattle.theory.specs.Monitor.{stateLimit}
 use Rattle.theory.specs.Faults.{FaultStep}
 use Rattle.theory.proofs.Below.{lt-or-le, same-or-not}
 use Rattle.theory.proofs.Faults.{steps-good}
 use Rattle.square.specs.Square.{never, entry}
 use Rattle.faults.specs.Steps.{plus, costOf, Attained, Cheapest}
 use Rattle.faults.specs.Looks.{OfSet}
-use Rattle.layers.specs.Layers.{far, Queue}
+use Rattle.layers.specs.Layers.{Queue}
 use Rattle.layers.proofs.Queue.{listed-found}
 use Rattle.totals.specs.Totals.{Unused, Makes, Costed, Enough}
 
-pub costed-none : (g : Automaton) (square : List ℕ) (bits : ℕ) {order depths costs : List ℕ} → g .states ≤ stateLimit → Unused costs
-    → Costed g square (OfSet bits (g .symbols)) order depths 0 costs never
+pub costed-none : {limit : ℕ} (g : Automaton) (square : List ℕ) (bits : ℕ) {order depths costs : List ℕ} → g .states ≤ limit → Unused limit costs
+    → Costed limit g square (OfSet bits (g .symbols)) order depths 0 costs never
 costed-none g square bits few u = record {
   size = u .size;
   most = le-refl never;
@@ -38,13 +37,13 @@ cost-some g square bits p s i = some (length (s .sent)) (entry square (run g p (
     some : (l e : ℕ) → 1 ≤ l → 1 ≤ plus l e
     some l e h = omega (arith, h)
 
-module _ (g : Automaton) (square : List ℕ) (bits : ℕ) {count i p d total : ℕ} {order depths costs : List ℕ} (few : g .states ≤ stateLimit)
-    (queue : Queue (g .states) count order depths) (li : i < count) (ep : p ≡ getD order i 0) (ed : d ≡ getD depths p 0)
-    (h : Costed g square (OfSet bits (g .symbols)) order depths i costs total) where
+module _ {limit : ℕ} (g : Automaton) (square : List ℕ) (bits : ℕ) {count i p d total : ℕ} {order depths costs : List ℕ} (few : g .states ≤ limit)
+    (queue : Queue limit (g .states) count order depths) (li : i < count) (ep : p ≡ getD order i 0) (ed : d ≡ getD depths p 0)
+    (h : Costed limit g square (OfSet bits (g .symbols)) order depths i costs total) where
   pub costed-state : p < g .states
   costed-state = rw ep (queue .inside i li)
 
-  pub costed-depth : d < far
+  pub costed-depth : d < limit
   costed-depth = (let l = listed-found few queue i li in let e = ap (λ (q : ℕ). getD depths q 0) ep in omega (arith, l, e, ed))
 
   -- all that come are at least as deep as the least total
@@ -85,7 +84,7 @@ module _ (g : Automaton) (square : List ℕ) (bits : ℕ) {count i p d total : �
         ⊎-elim (λ (l : cost < never). (let r = cheapest .attained l in let m = cost-some g square bits p (r .step) (r .of) in omega (arith, m, r .costs)))
         (λ l. omega (arith, l)) (lt-or-le cost never)
 
-    pub costed-goes-on : {total₁ : ℕ} → total₁ ≡ min (d + cost) total → Costed g square (OfSet bits (g .symbols)) order depths (i + 1) costs₁ total₁
+    pub costed-goes-on : {total₁ : ℕ} → total₁ ≡ min (d + cost) total → Costed limit g square (OfSet bits (g .symbols)) order depths (i + 1) costs₁ total₁
     costed-goes-on {total₁} e = record {
       size = length-set costs p cost ∙ h .size;
       most = omega (arith, e, h .most);
@@ -105,7 +104,7 @@ module _ (g : Automaton) (square : List ℕ) (bits : ℕ) {count i p d total : �
       makes = λ l. ⊎-elim (new l) (old l) (lt-or-le (d + cost) total);
     }
       where
-        new : total₁ < never → d + cost < total → Makes g square (OfSet bits (g .symbols)) depths total₁
+        new : total₁ < never → d + cost < total → Makes limit g square (OfSet bits (g .symbols)) depths total₁
         new l m =
             let r = cheapest .attained (omega (arith, l, m, e)) in
             let z = r .costs in
@@ -118,8 +117,8 @@ module _ (g : Automaton) (square : List ℕ) (bits : ℕ) {count i p d total : �
               sum = omega (arith, z, e, m, ed);
             }
 
-        old : total₁ < never → total ≤ d + cost → Makes g square (OfSet bits (g .symbols)) depths total₁
-        old l m = (let z : total ≡ total₁ = omega (arith, e, m) in subst (λ (t : ℕ). Makes g square (OfSet bits (g .symbols)) depths t) z
+        old : total₁ < never → total ≤ d + cost → Makes limit g square (OfSet bits (g .symbols)) depths total₁
+        old l m = (let z : total ≡ total₁ = omega (arith, e, m) in subst (λ (t : ℕ). Makes limit g square (OfSet bits (g .symbols)) depths t) z
             (h .makes (omega (arith, z, l))))
 
 pub costed-all : {order depths : List ℕ} {count i total : ℕ} → i ≤ count → count ≤ i → Enough order depths count i total

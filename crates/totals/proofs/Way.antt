@@ -8,7 +8,6 @@ use lib.ListN.{getD, set, length-set}
 use lib.Seq.{getD-set-same, getD-set-other}
 use borrow.Author.Tests.{eq-eqb, eqb-true}
 use Rattle.theory.specs.Automaton.{Automaton}
-use Rattle.theory.specs.Monitor.{stateLimit}
 use Rattle.theory.proofs.Below.{clash, lt-or-le, same-or-not, first-below, first-here}
 use Rattle.square.specs.Square.{never}
 use Rattle.layers.specs.Layers.{depthAt, Queue}
@@ -27,8 +26,8 @@ module _ (g : Automaton) (v : List ℕ) where
   pub onward-leads : (m q : ℕ) → onward g v m q < g .symbols → getD v (g .next q (onward g v m q)) 0 ≡ m
   onward-leads m q l = eqb-true (getD v (g .next q (onward g v m q)) 0) m (first-here (leadsToTotal g v m q) 0 (g .symbols) (omega (arith, l)))
 
-pub way-none : {g : Automaton} {order depths costs v : List ℕ} {total visited : ℕ} → g .states ≤ stateLimit → Unused v
-    → OnTheWay g order depths costs total visited visited v
+pub way-none : {limit : ℕ} {g : Automaton} {order depths costs v : List ℕ} {total visited : ℕ} → g .states ≤ limit → Unused limit v
+    → OnTheWay limit g order depths costs total visited visited v
 way-none few u = record {
   size = u .size;
   left = λ q lq l. absurd (omega (arith, l, u .filled q (omega (arith, lq, few))));
@@ -36,9 +35,9 @@ way-none few u = record {
   complete = λ i l f t. absurd (omega (arith, f, t));
 }
 
-module _ {g : Automaton} {order depths costs v : List ℕ} {total visited count i p : ℕ} (l : ℕ) (few : g .states ≤ stateLimit)
-    (queue : Queue (g .states) count order depths) (li : i < count) (ep : p ≡ getD order i 0) (el : l + getD depths p 0 ≡ total) (low : total < never)
-    (h : OnTheWay g order depths costs total (i + 1) visited v) where
+module _ {limit : ℕ} {g : Automaton} {order depths costs v : List ℕ} {total visited count i p : ℕ} (l : ℕ) (few : g .states ≤ limit)
+    (queue : Queue limit (g .states) count order depths) (li : i < count) (ep : p ≡ getD order i 0) (el : l + getD depths p 0 ≡ total) (low : total < never)
+    (h : OnTheWay limit g order depths costs total (i + 1) visited v) where
   p-in : p < g .states
   p-in = rw ep (queue .inside i li)
 
@@ -51,7 +50,7 @@ module _ {g : Automaton} {order depths costs v : List ℕ} {total visited count 
   is-left : {f : ℕ} → f + depthAt order depths i ≡ total → f ≡ l
   is-left e = (let z = ap (λ (q : ℕ). getD depths q 0) ep in omega (arith, e, z, el))
 
-  pub way-not : (LeadsOn g v costs l p → ⊥) → OnTheWay g order depths costs total i visited v
+  pub way-not : (LeadsOn g v costs l p → ⊥) → OnTheWay limit g order depths costs total i visited v
   way-not not = record {
     size = h .size;
     left = h .left;
@@ -112,7 +111,7 @@ module _ {g : Automaton} {order depths costs v : List ℕ} {total visited count 
         (same-or-not x p))
         on
 
-    pub way-on : visited ≤ count → OnTheWay g order depths costs total i visited v₁
+    pub way-on : visited ≤ count → OnTheWay limit g order depths costs total i visited v₁
     way-on within = record {
       size = length-set v p l ∙ h .size;
       left = λ q lq s.

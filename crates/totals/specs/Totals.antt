@@ -9,16 +9,17 @@ use lib.Dec.{eqb}
 use lib.ListN.{length, getD}
 use Rattle.theory.specs.Below.{first}
 use Rattle.theory.specs.Automaton.{Automaton}
-use Rattle.theory.specs.Monitor.{stateLimit}
 use Rattle.theory.specs.Faults.{FaultStep}
 use Rattle.square.specs.Square.{never}
 use Rattle.faults.specs.Steps.{costOf, Attained}
-use Rattle.layers.specs.Layers.{far, depthAt}
+use Rattle.layers.specs.Layers.{depthAt}
+
+-- `limit` is the greatest number of states and the size of the arrays
 
 -- an array of which no place is used
-pub record Unused (v : List ℕ) : Type 0 where
-  pub size : length v ≡ stateLimit
-  pub filled : (q : ℕ) → q < stateLimit → getD v q 0 ≡ never
+pub record Unused (limit : ℕ) (v : List ℕ) : Type 0 where
+  pub size : length v ≡ limit
+  pub filled : (q : ℕ) → q < limit → getD v q 0 ≡ never
 
 -- ---- the least total
 
@@ -31,19 +32,19 @@ abbrev pub Shallow : List ℕ → List ℕ → ℕ → ℕ → Type 0
 Shallow order depths visited total = (i : ℕ) → i < visited → depthAt order depths i < total
 
 -- some state is so deep that one of these fault steps makes the total there
-pub record Makes (g : Automaton) (square : List ℕ) (These : FaultStep → Type 0) (depths : List ℕ) (total : ℕ)
-    : Type 0 where
+pub record Makes (limit : ℕ) (g : Automaton) (square : List ℕ) (These : FaultStep → Type 0) (depths : List ℕ)
+    (total : ℕ) : Type 0 where
   pub state : ℕ
   pub inside : state < g .states
-  pub reached : getD depths state 0 < far
+  pub reached : getD depths state 0 < limit
   pub step : FaultStep
   pub of : These step
   pub sum : getD depths state 0 + costOf g square state step ≡ total
 
 -- what these fault steps cost at the first states of the order, and the least total they make there
-pub record Costed (g : Automaton) (square : List ℕ) (These : FaultStep → Type 0) (order depths : List ℕ)
+pub record Costed (limit : ℕ) (g : Automaton) (square : List ℕ) (These : FaultStep → Type 0) (order depths : List ℕ)
     (visited : ℕ) (costs : List ℕ) (total : ℕ) : Type 0 where
-  pub size : length costs ≡ stateLimit
+  pub size : length costs ≡ limit
   pub most : total ≤ never
   pub shallow : Shallow order depths visited total
   pub above : (i : ℕ) → i < visited → total ≤ depthAt order depths i + costAt order costs i
@@ -51,7 +52,7 @@ pub record Costed (g : Automaton) (square : List ℕ) (These : FaultStep → Typ
       → (costAt order costs i ≤ costOf g square (getD order i 0) s)
       ⊎ (total < depthAt order depths i + costOf g square (getD order i 0) s)
   pub attained : (q : ℕ) → q < g .states → getD costs q 0 < never → Attained g square q These (getD costs q 0)
-  pub makes : total < never → Makes g square These depths total
+  pub makes : total < never → Makes limit g square These depths total
 
 -- all states of the order that are not as deep as the total are among the first
 pub record Enough (order depths : List ℕ) (count visited total : ℕ) : Type 0 where
@@ -85,8 +86,9 @@ pub record Leading (g : Automaton) (v costs : List ℕ) : Type 0 where
 
 -- of the states of the order from `from` up to `upto` those are on the way that lead on; what is left there and the
 -- depth are the total
-pub record OnTheWay (g : Automaton) (order depths costs : List ℕ) (total from upto : ℕ) (v : List ℕ) : Type 0 where
-  pub size : length v ≡ stateLimit
+pub record OnTheWay (limit : ℕ) (g : Automaton) (order depths costs : List ℕ) (total from upto : ℕ) (v : List ℕ)
+    : Type 0 where
+  pub size : length v ≡ limit
   pub left : (q : ℕ) → q < g .states → getD v q 0 < never → getD v q 0 + getD depths q 0 ≡ total
   pub leading : Leading g v costs
   pub complete : (i l : ℕ) → from ≤ i → i < upto → l + depthAt order depths i ≡ total

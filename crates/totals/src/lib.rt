@@ -42,7 +42,7 @@ fn wide(x: u16) -> usize
 
 // An array for costs or totals of states, none of which is known yet.
 pub fn unused() -> [u16; STATE_LIMIT]
-    ensures { λ r. ⌜ Unused r ⌝ }
+    ensures { λ r. ⌜ Unused stateLimit r ⌝ }
 {
     [UNKNOWN; STATE_LIMIT]
 }
@@ -62,11 +62,11 @@ pub fn enter_costs(
     test: Test,
 ) -> Least
     requires { ⌜ Rows stateLimit n k (now nexts)
-        × Queue n count (now order) (now depths)
+        × Queue stateLimit n count (now order) (now depths)
         × HasRows n (now square)
         × Suited test n (now square)
-        × Unused (now costs) ⌝ }
-    ensures costed { λ r. ⌜ Costed (graph n k (nexts .entry)) (now (square .entry)) (OfSet (set .bits) k)
+        × Unused stateLimit (now costs) ⌝ }
+    ensures costed { λ r. ⌜ Costed stateLimit (graph n k (nexts .entry)) (now (square .entry)) (OfSet (set .bits) k)
         (now (order .entry)) (now (depths .entry)) (r .visited) (now (costs .exit)) (r .total) ⌝ }
     ensures enough { λ r. ⌜ Enough (now (order .entry)) (now (depths .entry)) count (r .visited) (r .total) ⌝ }
 {
@@ -150,13 +150,13 @@ pub fn enter_totals(
     least: Least,
 )
     requires { ⌜ Rows stateLimit n k (now nexts)
-        × Queue n count (now order) (now depths)
+        × Queue stateLimit n count (now order) (now depths)
         × (least .visited ≤ count)
         × Shallow (now order) (now depths) (least .visited) (least .total)
         × (least .total < never)
-        × Unused (now totals) ⌝ }
-    ensures { λ _. ⌜ OnTheWay (graph n k (nexts .entry)) (now (order .entry)) (now (depths .entry)) (now (costs .entry))
-        (least .total) 0 (least .visited) (now (totals .exit)) ⌝ }
+        × Unused stateLimit (now totals) ⌝ }
+    ensures { λ _. ⌜ OnTheWay stateLimit (graph n k (nexts .entry)) (now (order .entry)) (now (depths .entry))
+        (now (costs .entry)) (least .total) 0 (least .visited) (now (totals .exit)) ⌝ }
 {
     let mut i = least.visited;
     while i > 0 {

@@ -10,11 +10,11 @@ use lib.ListN.{length}
 use lib.Seq.{sets, sets-eq}
 use borrow.Author.Tests.{le-leb, lt-leb}
 use Rattle.theory.specs.Automaton.{Automaton, Closed}
-use Rattle.theory.specs.Monitor.{Monitor, stateLimit}
+use Rattle.theory.specs.Monitor.{Monitor}
 use Rattle.theory.specs.Faults.{steps}
 use Rattle.theory.specs.Answer.{Answer, refused, answered, asks, written}
 use Rattle.theory.specs.Series.{Series, sentTrace}
-use Rattle.theory.specs.Computed.{firstHarmful}
+use Rattle.theory.specs.Computed.{horizon, firstHarmful}
 use Rattle.theory.proofs.Below.{lt-or-le}
 use Rattle.theory.proofs.Faults.{steps-good, steps-rise}
 use Rattle.theory.proofs.Witness.{none-harms, first-harms, first-least}
@@ -24,8 +24,8 @@ use Rattle.witness.specs.Figures.{WitnessFigures, FaultFigures, seriesFi
 use Rattle.witness.specs.Search.{Searched}
 use Rattle.witness.proofs.Search.{total-least, total-found, search-none}
 
-module _ {g : Automaton} {ends : ℕ → ℕ → Bool} {start set count : ℕ} {square order depths costs : List ℕ} {least : Least} (closed : Closed g)
-    (squared : Squared g ends square) (start-in : start < g .states) (h : Searched g start set square order depths costs count least) where
+module _ {limit : ℕ} {g : Automaton} {ends : ℕ → ℕ → Bool} {start set count : ℕ} {square order depths costs : List ℕ} {least : Least} (closed : Closed g)
+    (squared : Squared g ends square) (start-in : start < g .states) (h : Searched limit g start set square order depths costs count least) where
   abbrev pub first : Option Series
   first = firstHarmful g ends (steps set (g .symbols)) start
 
@@ -55,8 +55,8 @@ module _ {g : Automaton} {ends : ℕ → ℕ → Bool} {start set count : ℕ} {
     abbrev answer : Answer FaultFigures
     answer = asks (roomQuestions first room) (witnessFigures read m first)
 
-    pub says-immune : g .states ≤ stateLimit → never ≤ total → answered none ≡ answer
-    says-immune small e = rw (search-none closed squared start-in h small e, le-leb 0 room zero-le)
+    pub says-immune : g .states ≤ limit → horizon limit < never → never ≤ total → answered none ≡ answer
+    says-immune small short e = rw (search-none closed squared start-in h small short e, le-leb 0 room zero-le)
 
     pub says-no-room : total < never → room < total → refused 13 0 ≡ answer
     says-no-room low l =
@@ -71,8 +71,9 @@ module _ {g : Automaton} {ends : ℕ → ℕ → Bool} {start set count : ℕ} {
         let z = s .2 in
         ap (λ (w : WitnessFigures). answered (some w)) (are (s .0) (s .1)) ∙ sym (rw (s .1, le-leb (length (sentTrace (s .0))) room (omega (arith, z, l))))
 
-  pub immune-keeps : (area : List ℕ) → g .states ≤ stateLimit → never ≤ total → area ≡ written {A = FaultFigures} (answered none) (witnessTrace first) area
-  immune-keeps area small e = rw (search-none closed squared start-in h small e)
+  pub immune-keeps : (area : List ℕ) → g .states ≤ limit → horizon limit < never → never ≤ total
+      → area ≡ written {A = FaultFigures} (answered none) (witnessTrace first) area
+  immune-keeps area small short e = rw (search-none closed squared start-in h small short e)
 
   pub witness-fills : {A : Type 0} (values : A) (area : List ℕ) {after : List ℕ} → total < never → total ≤ length area
       → ((s : Series) → first ≡ some s → after ≡ sets area 0 (sentTrace s)) → after ≡ written (answered values) (witnessTrace first) area

@@ -30,8 +30,8 @@ use Rattle.witness.specs.Figures.{seriesFigures, witnessValues}
 use Rattle.witness.specs.Search.{automatonIn, firstOf, Ready, Makes}
 use Rattle.witness.proofs.Answers.{search-some}
 
-module _ {t : Shape} {set : ℕ} {outs square order depths costs ts : List ℕ} {count : ℕ} {least : Least} {room : ℕ}
-    (r : Ready t set outs square order depths costs ts count least room) where
+module _ {limit : ℕ} {t : Shape} {set : ℕ} {outs square order depths costs ts : List ℕ} {count : ℕ} {least : Least} {room : ℕ}
+    (r : Ready limit t set outs square order depths costs ts count least room) where
   abbrev g : Automaton
   g = automatonIn t ts
 

@@ -169,9 +169,9 @@ module _ {g : Automaton} (ends : ℕ → ℕ → Bool) {set : ℕ} {square costs
 
 -- ---- what a search has found, with what is left on the way
 
-module _ {t : Shape} {set : ℕ} {outs square order depths costs ts : List ℕ} {count : ℕ} {least : Least} {room : ℕ}
-    (r : Ready t set outs square order depths costs ts count least room)
-    {v : List ℕ} (way : OnTheWay (automatonIn t ts) order depths costs (least .total) 0 (least .visited) v) where
+module _ {limit : ℕ} {t : Shape} {set : ℕ} {outs square order depths costs ts : List ℕ} {count : ℕ} {least : Least} {room : ℕ}
+    (r : Ready limit t set outs square order depths costs ts count least room)
+    {v : List ℕ} (way : OnTheWay limit (automatonIn t ts) order depths costs (least .total) 0 (least .visited) v) where
   pub ready-left : getD v (t .start) 0 ≡ least .total
   ready-left = start-left (next-of-rows (r .posed .rows)) (r .posed .squared) (r .posed .start-in) (r .searched) (r .some) way
 

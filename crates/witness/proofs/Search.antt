@@ -13,7 +13,6 @@ use lib.ListN.{length, length-append, getD}
 use borrow.Author.Tests.{eqb-true, eqb-false, eq-eqb, le-leb}
 use Rattle.theory.specs.Lists.{In, find, each}
 use Rattle.theory.specs.Automaton.{Automaton, Closed, Trace, run}
-use Rattle.theory.specs.Monitor.{stateLimit}
 use Rattle.theory.specs.Pairs.{Tells}
 use Rattle.theory.specs.Faults.{FaultStep, steps}
 use Rattle.theory.specs.Series.{Series, sentTrace, harmful, words, struck, plain, series}
@@ -27,7 +26,7 @@ use Rattle.theory.proofs.Witness.{Harm, harm-tells, tells-harm, sent-length, ne
 use Rattle.square.specs.Square.{never, entry, Squared, path}
 use Rattle.square.proofs.Path.{noted-least, apartBy, path-first}
 use Rattle.faults.specs.Steps.{plus, costOf}
-use Rattle.layers.specs.Layers.{far, Led, By}
+use Rattle.layers.specs.Layers.{Led, By}
 use Rattle.layers.proofs.Queue.{led-start, led-on}
 use Rattle.layers.proofs.Depth.{explored-by}
 use Rattle.totals.specs.declared.Least.{Least}
@@ -45,8 +44,8 @@ plus-some l e h = omega (arith, h)
 pub cost-sum : (l e c : ℕ) → plus l e ≡ c → c < never → l + e ≡ c
 cost-sum l e c h s = omega arith
 
-module _ {g : Automaton} {ends : ℕ → ℕ → Bool} {start set count : ℕ} {square order depths costs : List ℕ} {least : Least} (closed : Closed g)
-    (squared : Squared g ends square) (start-in : start < g .states) (seen : Searched g start set square order depths costs count least) where
+module _ {limit : ℕ} {g : Automaton} {ends : ℕ → ℕ → Bool} {start set count : ℕ} {square order depths costs : List ℕ} {least : Least} (closed : Closed g)
+    (squared : Squared g ends square) (start-in : start < g .states) (seen : Searched limit g start set square order depths costs count least) where
   abbrev faults : List FaultStep
   faults = steps set (g .symbols)
 
@@ -88,17 +87,17 @@ module _ {g : Automaton} {ends : ℕ → ℕ → Bool} {start set count : ℕ} {
   -- ---- the least total
 
   -- the place of a state that is not as deep as the total
-  visited-at : (p : ℕ) → p < g .states → depth p < far → depth p < total → (i : ℕ) × (i < least .visited) × (getD order i 0 ≡ p)
+  visited-at : (p : ℕ) → p < g .states → depth p < limit → depth p < total → (i : ℕ) × (i < least .visited) × (getD order i 0 ≡ p)
   visited-at p lp found low =
       let at = seen .explored .queue .listed p lp found in
       (at .0, seen .enough .all (at .0) (at .1) (subst (λ (q : ℕ). depth q < total) (sym (at .2)) low), at .2)
 
-  above-at : (p : ℕ) → p < g .states → depth p < far → depth p < total → total ≤ depth p + cost p
+  above-at : (p : ℕ) → p < g .states → depth p < limit → depth p < total → total ≤ depth p + cost p
   above-at p lp found low =
       let at = visited-at p lp found low in
       subst (λ (q : ℕ). total ≤ depth q + cost q) (at .2) (seen .costed .above (at .0) (at .1))
 
-  least-at : (p : ℕ) (s : FaultStep) → p < g .states → depth p < far → depth p < total → In s faults
+  least-at : (p : ℕ) (s : FaultStep) → p < g .states → depth p < limit → depth p < total → In s faults
       → (cost p ≤ costOf g square p s) ⊎ (total < depth p + costOf g square p s)
   least-at p s lp found low i =
       let at = visited-at p lp found low in
@@ -157,9 +156,10 @@ module _ {g : Automaton} {ends : ℕ → ℕ → Bool} {start set count : ℕ} {
       let x = total-least (t .0) (t .1) in
       omega (arith, x, t .2)
 
-  module _ (small : g .states ≤ stateLimit) where
+  -- a harmful series within the limit is shorter than never
+  module _ (small : g .states ≤ limit) (short : horizon limit < never) where
     near-never : horizon (g .states) < never
-    near-never = (let z : g .states * g .states ≤ stateLimit * stateLimit = mul-le-mul small small in omega (arith, z))
+    near-never = (let z : g .states * g .states ≤ limit * limit = mul-le-mul small small in omega (arith, z))
 
     pub search-none : never ≤ total → firstHarmful g ends faults start ≡ none
     search-none e =
@@ -187,10 +187,11 @@ module _ {g : Automaton} {ends : ℕ → ℕ → Bool} {start set count : ℕ} {
   live-in : {p l : ℕ} → Live p l → p < g .states
   live-in h = subst (λ (x : ℕ). x < g .states) (h .led .arrives) (run-in closed start (h .led .word) start-in (h .led .trace))
 
-  live-by : {p l : ℕ} (h : Live p l) → By depths (h .sent) p
+  live-by : {p l : ℕ} (h : Live p l) → By limit depths (h .sent) p
   live-by {p} h =
-      subst (λ (i : ℕ). By depths i p) (h .led .long)
-      (subst (λ (x : ℕ). By depths (length (h .led .word)) x) (h .led .arrives) (explored-by closed (seen .explored) start-in (h .led .word) (h .led .trace)))
+      subst (λ (i : ℕ). By limit depths i p) (h .led .long)
+      (subst (λ (x : ℕ). By limit depths (length (h .led .word)) x) (h .led .arrives)
+      (explored-by closed (seen .explored) start-in (h .led .word) (h .led .trace)))
 
   -- no fault step there costs less than l
   live-least : {p l : ℕ} → Live p l → (s : FaultStep) → In s faults → l ≤ costOf g square p s
@@ -214,7 +215,7 @@ module _ {g : Automaton} {ends : ℕ → ℕ → Bool} {start set count : ℕ} {
       let a = above-at p (live-in h) (by .is-found) low in
       ⊎-elim (λ m. omega (arith, m, a, e, deep)) (λ m. absurd (omega (arith, m, e, deep))) (least-at p s (live-in h) (by .is-found) low i)
 
-  module _ {v : List ℕ} (low : total < never) (way : OnTheWay g order depths costs total 0 (least .visited) v) where
+  module _ {v : List ℕ} (low : total < never) (way : OnTheWay limit g order depths costs total 0 (least .visited) v) where
     abbrev left : ℕ → ℕ
     left p = getD v p 0
 

@@ -5,7 +5,7 @@ use mathlib.Core.Option.{Option, none, some}
 use Prim.Native.Nat.{ℕ, _<_}
 use lib.ListN.{length, getD}
 use Rattle.theory.specs.Automaton.{Automaton, run}
-use Rattle.theory.specs.Monitor.{Monitor, reading, stateLimit}
+use Rattle.theory.specs.Monitor.{Monitor, reading}
 use Rattle.theory.specs.Faults.{steps}
 use Rattle.theory.specs.Answer.{Answer, asks, written}
 use Rattle.theory.specs.Series.{Series, sentTrace, receivedTrace}
@@ -68,7 +68,7 @@ module _ {limit n k start : ℕ} {vs ts : List ℕ} (t : Table limit n k start v
 
 -- what is posed by a table, its outputs, and the square made of them
 pub table-posed : {limit : ℕ} {t : Shape} {vs ts : List ℕ} → Table limit (t .states) (t .symbols) (t .start) vs ts
-    → Rows stateLimit (t .states) (t .symbols) ts → (test : Test) {outs square : List ℕ} → length outs ≡ t .states
-    → Squared (automatonIn t ts) (passing test outs) square → Posed t outs square ts
+    → Rows limit (t .states) (t .symbols) ts → (test : Test) {outs square : List ℕ} → length outs ≡ t .states
+    → Squared (automatonIn t ts) (passing test outs) square → Posed limit t outs square ts
 table-posed h rows test e s =
     record { rows = rows; outputs = e; start-in = h .well-formed .start-in; squared = squared-at-once (next-of-rows rows) s }

@@ -8,7 +8,6 @@ use lib.ListN.{length, getD}
 use lib.Seq.{sets}
 use Rattle.theory.specs.Answer.{Answer, asks}
 use Rattle.theory.specs.Automaton.{Automaton, run}
-use Rattle.theory.specs.Monitor.{stateLimit}
 use Rattle.theory.specs.Faults.{steps}
 use Rattle.theory.specs.Series.{Series, sentTrace, receivedTrace}
 use Rattle.theory.specs.Computed.{firstHarmful}
@@ -38,25 +37,26 @@ answerOf t vs outs square ts set room =
     asks (roomQuestions (firstOf t square ts set) room)
     (witnessFigures (λ q. getD outs q 0) (monitorFrom t vs ts) (firstOf t square ts set))
 
--- what all fault sets of a table and a test share: an output for each state, and the square of pair distances
-pub record Posed (t : Shape) (outs square ts : List ℕ) : Type 0 where
-  pub rows : Rows stateLimit (t .states) (t .symbols) ts
+-- what all fault sets of a table and a test share: an output for each state, and the square of pair distances; `limit`
+-- is the greatest number of states
+pub record Posed (limit : ℕ) (t : Shape) (outs square ts : List ℕ) : Type 0 where
+  pub rows : Rows limit (t .states) (t .symbols) ts
   pub outputs : length outs ≡ t .states
   pub start-in : t .start < t .states
   pub squared : Squared (automatonIn t ts) (apartAtOnce square) square
 
 -- what the search of one set has found: the layers, the costs at the states visited, and the least total
-pub record Searched (g : Automaton) (start set : ℕ) (square order depths costs : List ℕ) (count : ℕ) (least : Least)
-    : Type 0 where
-  pub explored : Explored g start count order depths
-  pub costed : Costed g square (OfSet set (g .symbols)) order depths (least .visited) costs (least .total)
+pub record Searched (limit : ℕ) (g : Automaton) (start set : ℕ) (square order depths costs : List ℕ) (count : ℕ)
+    (least : Least) : Type 0 where
+  pub explored : Explored limit g start count order depths
+  pub costed : Costed limit g square (OfSet set (g .symbols)) order depths (least .visited) costs (least .total)
   pub enough : Enough order depths count (least .visited) (least .total)
 
 -- the same where there is a witness, and room for it
-pub record Ready (t : Shape) (set : ℕ) (outs square order depths costs ts : List ℕ) (count : ℕ) (least : Least)
-    (room : ℕ) : Type 0 where
-  pub posed : Posed t outs square ts
-  pub searched : Searched (automatonIn t ts) (t .start) set square order depths costs count least
+pub record Ready (limit : ℕ) (t : Shape) (set : ℕ) (outs square order depths costs ts : List ℕ) (count : ℕ)
+    (least : Least) (room : ℕ) : Type 0 where
+  pub posed : Posed limit t outs square ts
+  pub searched : Searched limit (automatonIn t ts) (t .start) set square order depths costs count least
   pub some : least .total < never
   pub fits : least .total ≤ room
 

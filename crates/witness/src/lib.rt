@@ -74,8 +74,8 @@ fn harm_of(
     set: FaultSet,
     area: &mut [u8],
 ) -> Harm
-    requires { ⌜ Ready t (set .bits) (now outputs) (now square) (now order) (now depths) (now costs) (now nexts)
-        found least (length (now area)) ⌝ }
+    requires { ⌜ Ready stateLimit t (set .bits) (now outputs) (now square) (now order) (now depths) (now costs)
+        (now nexts) found least (length (now area)) ⌝ }
     ensures series { λ r. ⌜ ((s : Series) → firstOf t (now (square .entry)) (now (nexts .entry)) (set .bits) ≡ some s
         → Makes (automatonIn t (now (nexts .entry))) (t .start) (now (outputs .entry)) s r) ⌝ }
     ensures area { λ _. ⌜ SentInto (firstOf t (now (square .entry)) (now (nexts .entry)) (set .bits))
@@ -122,7 +122,7 @@ fn witness_of(
     area: &mut [u8],
 ) -> Witness
     requires { ⌜ TableIn t marks nexts
-        × Ready t (set .bits) (now outputs) (now square) (now order) (now depths) (now costs) (now nexts)
+        × Ready stateLimit t (set .bits) (now outputs) (now square) (now order) (now depths) (now costs) (now nexts)
         count least (length (now area)) ⌝ }
     ensures figures { λ r. ⌜ ((s : Series) → firstOf t (now (square .entry)) (now (nexts .entry)) (set .bits) ≡ some s
         → witnessValues r
@@ -173,9 +173,9 @@ pub fn find_first(
     area: &mut [u8],
 ) -> Outcome
     requires { ⌜ TableIn t marks nexts
-        × Posed t (now outputs) (now square) (now nexts)
+        × Posed stateLimit t (now outputs) (now square) (now nexts)
         × Suited test (t .states) (now square)
-        × Explored (automatonIn t (now nexts)) (t .start) count (now order) (now depths) ⌝ }
+        × Explored stateLimit (automatonIn t (now nexts)) (t .start) count (now order) (now depths) ⌝ }
     ensures figures { λ r. ⌜ outcome r
         ≡ answerOf t (now (marks .entry)) (now (outputs .entry)) (now (square .entry)) (now (nexts .entry)) (set .bits)
         (length (now (area .entry))) ⌝ }

@@ -4,12 +4,13 @@ use Prim.Native.Nat.{ℕ, suc, _-_, _<_}
 use native.Mathlib.Omega.{arith}
 use lib.ListN.{length}
 use borrow.Author.Needs.{needs}
+use Rattle.theory.specs.Monitor.{stateLimit}
 use Rattle.certificate.proofs.Lowest.{Entered, enter-goes-on, enter-ends}
 use Rattle.certificate.proofs.lowest_states.Statement.{statement}
 use Rattle.certificate.proofs.lowest_states.Tie as tie
 
 abbrev Inv-loop : tie.InvT-loop
-Inv-loop blocks lowest₀ q₀ lowest q = Entered blocks q lowest
+Inv-loop blocks lowest₀ q₀ lowest q = Entered stateLimit blocks q lowest
 
 abbrev μ-loop : tie.MeasureT-loop
 μ-loop blocks lowest₀ q₀ lowest q = q
@@ -31,7 +32,7 @@ loop-again c =
     let at = c .before .before .loop in
     let one : at .q ≡ suc (at .q - 1) = omega (arith, c .before .loop-test .taken) in
     enter-goes-on (at .q - 1) (c .before .before .before .pre) (inside c)
-    (subst (λ (q : ℕ). Entered (c .before .before .before .args .blocks .now) q (at .lowest)) one (at .inv))
+    (subst (λ (q : ℕ). Entered stateLimit (c .before .before .before .args .blocks .now) q (at .lowest)) one (at .inv))
 
 returns : tie.Need-returns Inv-loop μ-loop
 returns c = enter-ends (c .loop-test .left) (c .before .loop .inv)

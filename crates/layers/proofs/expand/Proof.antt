@@ -4,6 +4,7 @@ use mathlib.Core.Logic.{⊎-elim}
 use Prim.Native.Nat.{_-_, _<_}
 use native.Mathlib.Omega.{arith}
 use borrow.Author.Needs.{needs}
+use Rattle.theory.specs.Monitor.{stateLimit}
 use Rattle.monitor.specs.Format.{automatonOf}
 use Rattle.monitor.proofs.Rows.{next-of-rows}
 use Rattle.layers.proofs.Queue.{Expanding, expanding-begins, expanding-old, expanding-room, expanding-new}
@@ -12,7 +13,7 @@ use Rattle.layers.proofs.expand.Tie as tie
 
 abbrev Inv-loop : tie.InvT-loop
 Inv-loop order₀ depths₀ nexts n k p found depth count₀ a₀ order depths count a =
-    Expanding (automatonOf n k nexts) depth p found count a order₀ order depths₀ depths
+    Expanding stateLimit (automatonOf n k nexts) depth p found count a order₀ order depths₀ depths
 
 abbrev μ-loop : tie.MeasureT-loop
 μ-loop order₀ depths₀ nexts n k p found depth count₀ a₀ order depths count a = k - a

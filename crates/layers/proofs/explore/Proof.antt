@@ -7,14 +7,14 @@ use lib.ListN.{getD}
 use Rattle.theory.specs.Monitor.{stateLimit}
 use Rattle.monitor.specs.Format.{automatonOf}
 use Rattle.monitor.proofs.Rows.{next-of-rows}
-use Rattle.layers.specs.Layers.{far, NoDeeper}
+use Rattle.layers.specs.Layers.{NoDeeper}
 use Rattle.layers.proofs.Queue.{Exploring, exploring-begins, exploring-state, exploring-found, exploring-deep, exploring-fewer, exploring-goes-on}
 use Rattle.layers.proofs.Queue.{exploring-ends}
 use Rattle.layers.proofs.explore.Statement.{statement}
 use Rattle.layers.proofs.explore.Tie as tie
 
 abbrev Inv-loop : tie.InvT-loop
-Inv-loop order₀ depths₀ nexts n k start count₀ head₀ order depths count head = Exploring (automatonOf n k nexts) start count head order depths
+Inv-loop order₀ depths₀ nexts n k start count₀ head₀ order depths count head = Exploring stateLimit (automatonOf n k nexts) start count head order depths
 
 abbrev μ-loop : tie.MeasureT-loop
 μ-loop order₀ depths₀ nexts n k start count₀ head₀ order depths count head = n - head
@@ -31,7 +31,7 @@ at-head : (c : tie.In-loop Inv-loop μ-loop)
     → (let a = c .before .before .before .args in
     let at = c .before .loop in
     let p = getD (at .order) (at .head) 0 in
-    (at .head < a .n) × (a .n ≤ stateLimit) × (p < a .n) × (getD (at .depths) p 0 < far)
+    (at .head < a .n) × (a .n ≤ stateLimit) × (p < a .n) × (getD (at .depths) p 0 < stateLimit)
     × NoDeeper (at .count) (at .order) (at .depths) (getD (at .depths) p 0 + 1))
 at-head c =
     let a = c .before .before .before .args in

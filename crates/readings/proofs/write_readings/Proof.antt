@@ -44,7 +44,8 @@ returns-2 c =
     let a = c .before .before .before .before .before .before .before .before .before .args in
     let m = monitorIn (a .t) (a .marks) (a .nexts) in
     c .before .before .write-all-classes .ensures
-    ∙ filled-same (class m) (reading m (a .domain)) (a .area .now) refl (λ q _. reads-class m (a .domain) q (c .before .before .before .before .if2 .taken) refl)
+    ∙ filled-same (class m) (reading m (a .domain)) (a .area .now) refl
+    (λ q _. reads-class m (a .domain) q (c .before .before .before .before .if2 .taken) refl)
 
 returns-3 : tie.Need-returns-3
 returns-3 c =
@@ -56,7 +57,8 @@ returns-3 c =
     c .before .before .copy2 .ensures .1
     ∙ ap (λ (front : List ℕ). front ++ drop (length zeros) (a .area .now)) (sym (values-front zeros (length zeros) (le-refl (length zeros))))
     ∙ filled-same (λ q. getD zeros q 0) (reading m (a .domain)) (a .area .now) (sym (zeros-count (a .t .states) stateLimit most))
-    (λ q h. getD-take (a .t .states) (replicate {A = ℕ} stateLimit 0) q 0 h ∙ getD-replicate {A = ℕ} stateLimit q 0 0 (omega (arith, h, most))
+    (λ q h. getD-take (a .t .states) (replicate {A = ℕ} stateLimit 0) q 0 h
+    ∙ getD-replicate {A = ℕ} stateLimit q 0 0 (omega (arith, h, most))
     ∙ reads-none m (a .domain) q (c .before .before .before .before .before .before .if1 .left) (c .before .before .before .before .before .if2 .left))
 
 pub write-readings-spec : {M : Type 1} → statement M

@@ -7,7 +7,7 @@ use lib.ListN.{getD}
 use Rattle.theory.specs.Monitor.{stateLimit}
 use Rattle.monitor.specs.Format.{automatonOf}
 use Rattle.faults.specs.Looks.{OfSet}
-use Rattle.layers.specs.Layers.{far, depthAt}
+use Rattle.layers.specs.Layers.{depthAt}
 use Rattle.layers.proofs.Queue.{queue-few}
 use Rattle.totals.specs.Totals.{Costed}
 use Rattle.totals.proofs.Costed.{costed-none, costed-state, costed-depth, costed-stops, costed-goes-on, costed-all}
@@ -16,7 +16,7 @@ use Rattle.totals.proofs.enter_costs.Tie as tie
 
 abbrev Inv-loop : tie.InvT-loop
 Inv-loop costs₀ order depths count square nexts n k set test total₀ i₀ costs total i =
-    (i ≤ count) × Costed (automatonOf n k nexts) square (OfSet (set .bits) k) order depths i costs total
+    (i ≤ count) × Costed stateLimit (automatonOf n k nexts) square (OfSet (set .bits) k) order depths i costs total
 
 abbrev μ-loop : tie.MeasureT-loop
 μ-loop costs₀ order depths count square nexts n k set test total₀ i₀ costs total i = count - i
@@ -31,7 +31,7 @@ loop-holds c =
 state-in : (c : tie.In-loop Inv-loop μ-loop)
     → (let a = c .before .before .before .before .args in
     (c .before .loop .i < stateLimit) × (getD (a .order .now) (c .before .loop .i) 0 < a .n) × (a .n ≤ stateLimit)
-    × (depthAt (a .order .now) (a .depths .now) (c .before .loop .i) < far))
+    × (depthAt (a .order .now) (a .depths .now) (c .before .loop .i) < stateLimit))
 state-in c =
     let a = c .before .before .before .before .args in
     let pre = c .before .before .before .before .pre in

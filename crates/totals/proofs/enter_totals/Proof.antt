@@ -16,7 +16,7 @@ use Rattle.totals.proofs.enter_totals.Tie as tie
 
 abbrev Inv-loop : tie.InvT-loop
 Inv-loop totals₀ costs order depths nexts n k count least i₀ totals i =
-    (i ≤ least .visited) × OnTheWay (automatonOf n k nexts) order depths costs (least .total) i (least .visited) totals
+    (i ≤ least .visited) × OnTheWay stateLimit (automatonOf n k nexts) order depths costs (least .total) i (least .visited) totals
 
 abbrev μ-loop : tie.MeasureT-loop
 μ-loop totals₀ costs order depths nexts n k count least i₀ totals i = i
@@ -41,14 +41,14 @@ place c =
 -- what is known from there on
 behind : (c : tie.In-loop Inv-loop μ-loop)
     → (let a = c .before .before .before .args in
-    OnTheWay (automatonOf (a .n) (a .k) (a .nexts .now)) (a .order .now) (a .depths .now) (a .costs .now) (a .least .total)
+    OnTheWay stateLimit (automatonOf (a .n) (a .k) (a .nexts .now)) (a .order .now) (a .depths .now) (a .costs .now) (a .least .total)
     ((c .before .loop .i - 1) + 1) (a .least .visited) (c .before .loop .totals))
 behind c =
     let a = c .before .before .before .args in
     let at = c .before .loop in
     let e : at .i ≡ (at .i - 1) + 1 = omega (arith, c .loop-test .taken) in
     subst
-    (λ (j : ℕ). OnTheWay (automatonOf (a .n) (a .k) (a .nexts .now)) (a .order .now) (a .depths .now) (a .costs .now) (a .least .total) j
+    (λ (j : ℕ). OnTheWay stateLimit (automatonOf (a .n) (a .k) (a .nexts .now)) (a .order .now) (a .depths .now) (a .costs .now) (a .least .total) j
     (a .least .visited) (at .totals))
     e (at .inv .1)
 
@@ -105,7 +105,7 @@ returns c =
     let at = c .before .loop in
     let e : at .i ≡ 0 = omega (arith, c .loop-test .left) in
     subst
-    (λ (j : ℕ). OnTheWay (automatonOf (a .n) (a .k) (a .nexts .now)) (a .order .now) (a .depths .now) (a .costs .now) (a .least .total) j
+    (λ (j : ℕ). OnTheWay stateLimit (automatonOf (a .n) (a .k) (a .nexts .now)) (a .order .now) (a .depths .now) (a .costs .now) (a .least .total) j
     (a .least .visited) (at .totals))
     e (at .inv .1)
 

@@ -4,6 +4,7 @@ use native.Mathlib.Omega.{arith}
 use mathlib.Core.Option.{some}
 use lib.ListN.{length, getD}
 use borrow.Author.Needs.{needs}
+use Rattle.theory.specs.Monitor.{stateLimit}
 use Rattle.monitor.specs.Opening.{monitorIn}
 use Rattle.monitor.proofs.Rows.{next-of-rows}
 use Rattle.witness.specs.Figures.{witnessValues}
@@ -19,7 +20,7 @@ enter-costs-requires c κs =
 
 seen : (c : tie.After-enter-costs)
     → (let a = c .before .before .before .before .before .before .before .before .args in
-    Searched (automatonIn (a .t) (a .nexts .now)) (a .t .start) (a .set .bits) (a .square .now) (a .order .now) (a .depths .now)
+    Searched stateLimit (automatonIn (a .t) (a .nexts .now)) (a .t .start) (a .set .bits) (a .square .now) (a .order .now) (a .depths .now)
     (c .enter-costs .last .0) (a .count) (c .enter-costs .result))
 seen c =
     let e = c .enter-costs .ensures in
@@ -32,9 +33,9 @@ returns c =
     let p = s .pre .1 in
     let closed = next-of-rows (p .rows) in
     let m = monitorIn (s .args .t) (s .args .marks) (s .args .nexts) in (
-      says-immune closed (p .squared) (p .start-in) h (λ q. getD (s .args .outputs .now) q 0) m (length (s .args .area .now)) (p .rows .states-most)
-          (omega (arith, c .if1 .taken)),
-      immune-keeps closed (p .squared) (p .start-in) h (s .args .area .now) (p .rows .states-most) (omega (arith, c .if1 .taken)),
+      says-immune closed (p .squared) (p .start-in) h (λ q. getD (s .args .outputs .now) q 0) m (length (s .args .area .now))
+          (p .rows .states-most) (omega arith) (omega (arith, c .if1 .taken)),
+      immune-keeps closed (p .squared) (p .start-in) h (s .args .area .now) (p .rows .states-most) (omega arith) (omega (arith, c .if1 .taken)),
     )
 
 returns-2 : tie.Need-returns-2

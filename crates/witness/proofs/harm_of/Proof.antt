@@ -19,7 +19,7 @@ use Rattle.witness.proofs.harm_of.Tie as tie
 -- what is left on the way to the fault
 way : (c : tie.After-enter-totals)
     → (let a = c .before .before .before .before .before .before .before .args in
-    OnTheWay (automatonIn (a .t) (a .nexts .now)) (a .order .now) (a .depths .now) (a .costs .now) (a .least .total) 0 (a .least .visited)
+    OnTheWay stateLimit (automatonIn (a .t) (a .nexts .now)) (a .order .now) (a .depths .now) (a .costs .now) (a .least .total) 0 (a .least .visited)
     (c .enter-totals .last .0))
 way c = c .enter-totals .ensures
 
