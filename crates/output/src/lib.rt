@@ -1,4 +1,7 @@
 // Standard output of the programs, and the lines that they write to standard error.
+ghost use mathlib.Core.Path.{_≡_};
+ghost use mathlib.Core.Bool.{false};
+ghost use lib.IntN.{pos};
 
 // Who writes: a program for users, or one for the tests. The name begins the line that tells a failure.
 pub enum Program {
@@ -54,8 +57,10 @@ pub fn complaint_of(program: Program, name: &[u8], what: &[u8]) {
     error_text(b"\n");
 }
 
-// The output of a program, nothing written yet.
-pub fn standard(program: Program) -> Output {
+// The output of a program, descriptor 1, nothing written yet.
+pub fn standard(program: Program) -> Output
+    ensures { λ r. ⌜ r ≡ record { program = program; descriptor = pos 1; failed = false } ⌝ }
+{
     Output {
         program,
         descriptor: libc::STDOUT_FILENO,
