@@ -3,9 +3,9 @@ use basics::Refusal;
 use basics::Writing;
 use monitor::Shape;
 use opening::Opened;
+use rows::PREDECESSORS;
 use state_set::WORDS;
 use theory::STATE_LIMIT;
-use theory::SYMBOL_LIMIT;
 ghost use mathlib.Core.Path.{_≡_};
 ghost use mathlib.Core.List.{_++_};
 ghost use Prim.Native.Nat.{_≤_};
@@ -50,7 +50,7 @@ fn write_blocks(marks: &[u8], nexts: &[u8], t: Shape, domain: usize, area: &mut 
     let mut numbers = [0u8; STATE_LIMIT];
     let mut members = [0u64; STATE_LIMIT * WORDS];
     let mut splitters = [0u64; STATE_LIMIT * WORDS];
-    let mut predecessors = [0u64; STATE_LIMIT * SYMBOL_LIMIT * WORDS];
+    let mut predecessors = [0u64; PREDECESSORS];
     refining::enter(
         &mut square,
         &mut numbers,

@@ -4,8 +4,9 @@ use faults::FaultSet;
 use faults::KINDS;
 use monitor::Shape;
 use opening::Opened;
-use square::FEW;
+use rows::PREDECESSORS;
 use square::Test;
+use theory::SQUARE_SIZE;
 use theory::STATE_LIMIT;
 use witness::Outcome;
 use witness::WITNESS_ROOM;
@@ -22,7 +23,7 @@ ghost use Rattle.theory.specs.Computed.{horizon};
 ghost use Rattle.basics.specs.Refusals.{refusal};
 ghost use Rattle.monitor.specs.Opening.{monitorIn, TableIn};
 ghost use Rattle.square.specs.declared.Test.the-variants.{Differ};
-ghost use Rattle.square.specs.Square.{Blank, Squared, passing};
+ghost use Rattle.square.specs.Square.{Squared, passing};
 ghost use Rattle.layers.specs.Layers.{Explored};
 ghost use Rattle.witness.specs.Figures.{outcome};
 ghost use Rattle.witness.specs.Search.{automatonIn};
@@ -67,6 +68,25 @@ fn finding_of(found: Outcome) -> Finding
     }
 }
 
+// `examine` with the working areas of `witness::first_witness_in` lent, for a caller that asks more than once.
+pub fn examine_in(
+    square: &mut [u16; SQUARE_SIZE],
+    predecessors: &mut [u64; PREDECESSORS],
+    body: &[u8],
+    set: usize,
+    domain: usize,
+    area: &mut [u8],
+) -> Finding
+    ensures figures { λ r. ⌜ finding r
+        ≡ faultAnswer stateLimit (now (body .entry)) set domain (length (now (area .entry))) ⌝ }
+    ensures area { λ _. ⌜ now (area .exit)
+        ≡ written (faultAnswer stateLimit (now (body .entry)) set domain (length (now (area .entry))))
+        (faultTrace (now (body .entry)) set domain) (now (area .entry)) ⌝ }
+{
+    let test = Test::Differ;
+    finding_of(witness::first_witness_in(square, predecessors, body, set, domain, test, area))
+}
+
 // The fault question: whether one fault of the set can change what a trace of the table reads, by marks (domain 3) or
 // by classes (domain 6). The sent trace of a witness goes into the area, which is otherwise left as it was.
 pub fn examine(body: &[u8], set: usize, domain: usize, area: &mut [u8]) -> Finding
@@ -76,21 +96,9 @@ pub fn examine(body: &[u8], set: usize, domain: usize, area: &mut [u8]) -> Findi
         ≡ written (faultAnswer stateLimit (now (body .entry)) set domain (length (now (area .entry))))
         (faultTrace (now (body .entry)) set domain) (now (area .entry)) ⌝ }
 {
-    finding_of(witness::first_witness(body, set, domain, Test::Differ, area))
-}
-
-// An area long enough for every witness.
-fn scratch() -> [u8; WITNESS_ROOM]
-    ensures { λ r. ⌜ length r ≡ horizon stateLimit ⌝ }
-{
-    [0u8; WITNESS_ROOM]
-}
-
-// An area long enough for every witness of a table of few states.
-fn scratch_few() -> [u8; FEW * FEW + FEW + 2]
-    ensures { λ r. ⌜ length r ≡ horizon 16 ⌝ }
-{
-    [0u8; FEW * FEW + FEW + 2]
+    let mut square = square::blank();
+    let mut predecessors = [0u64; PREDECESSORS];
+    examine_in(&mut square, &mut predecessors, body, set, domain, area)
 }
 
 // The column of a rank: its fault alone, by marks. The sent trace of a witness stays in the area.
@@ -160,43 +168,44 @@ fn columns_of(
     columns
 }
 
-// The columns of a table, in a blank square.
+// The columns of a table, with the working areas lent: the square, the sets of predecessors, and an area that holds
+// every witness of the table.
 fn columns_in(
-    square: &mut [u16],
+    square: &mut [u16; SQUARE_SIZE],
+    predecessors: &mut [u64; PREDECESSORS],
     marks: &[u8],
     nexts: &[u8],
     t: Shape,
     area: &mut [u8],
 ) -> [Column; KINDS]
     requires { ⌜ TableIn t marks nexts
-        × Blank (t .states) (now square)
         × (horizon (t .states) ≤ length (now area)) ⌝ }
     ensures { λ r. ⌜ found r ≡ cardAsking [] (monitorIn t (marks .entry) (nexts .entry)) .columns ⌝ }
 {
-    pairs::enter_distances(square, nexts, t.states, t.symbols, marks, Test::Differ);
+    pairs::enter_distances(
+        square,
+        predecessors,
+        nexts,
+        t.states,
+        t.symbols,
+        marks,
+        Test::Differ,
+    );
     let mut order = layers::blank();
     let mut depths = layers::blank();
     let count = layers::explore(&mut order, &mut depths, nexts, t.states, t.symbols, t.start);
     columns_of(marks, square, &order, &depths, count, nexts, t, area)
 }
 
-// The same: the square and the area are as large as the table needs, few states or all.
-fn all_columns(marks: &[u8], nexts: &[u8], t: Shape) -> [Column; KINDS]
-    requires { ⌜ TableIn t marks nexts ⌝ }
-    ensures { λ r. ⌜ found r ≡ cardAsking [] (monitorIn t (marks .entry) (nexts .entry)) .columns ⌝ }
-{
-    if t.states <= FEW {
-        let mut square = square::blank_few();
-        let mut area = scratch_few();
-        return columns_in(&mut square, marks, nexts, t, &mut area);
-    }
-    let mut square = square::blank();
-    let mut area = scratch();
-    columns_in(&mut square, marks, nexts, t, &mut area)
-}
-
 // The card of an opened table.
-fn card_of(marks: &[u8], nexts: &[u8], t: Shape) -> LinkCard
+fn card_of(
+    square: &mut [u16; SQUARE_SIZE],
+    predecessors: &mut [u64; PREDECESSORS],
+    witnesses: &mut [u8; WITNESS_ROOM],
+    marks: &[u8],
+    nexts: &[u8],
+    t: Shape,
+) -> LinkCard
     requires { ⌜ TableIn t marks nexts ⌝ }
     ensures { λ r. ⌜ carded r ≡ cardAsking [] (monitorIn t (marks .entry) (nexts .entry)) ⌝ }
 {
@@ -204,7 +213,7 @@ fn card_of(marks: &[u8], nexts: &[u8], t: Shape) -> LinkCard
         states: t.states,
         monitorability: classes::monitorability_of(marks, nexts, t),
     };
-    let columns = all_columns(marks, nexts, t);
+    let columns = columns_in(square, predecessors, marks, nexts, t, witnesses);
     LinkCard { summary, columns }
 }
 
@@ -219,8 +228,14 @@ fn refused_card(r: Refusal) -> LinkCard
     LinkCard { summary, columns }
 }
 
-// The card of a table: its states, its monitorability, and the finding for each fault alone, by marks.
-pub fn card(body: &[u8]) -> LinkCard
+// `card` with the working areas lent, for a caller that asks more than once: whatever they hold, the card is the same,
+// and nobody reads what they hold afterwards.
+pub fn card_in(
+    square: &mut [u16; SQUARE_SIZE],
+    predecessors: &mut [u64; PREDECESSORS],
+    witnesses: &mut [u8; WITNESS_ROOM],
+    body: &[u8],
+) -> LinkCard
     ensures { λ r. ⌜ carded r ≡ cardAnswer stateLimit (now (body .entry)) ⌝ }
 {
     let mut marks = [0u8; STATE_LIMIT];
@@ -228,7 +243,24 @@ pub fn card(body: &[u8]) -> LinkCard
         Opened::Refused(r) => refused_card(r),
         Opened::Table(t) => {
             let n = t.states;
-            card_of(&marks[..n], monitor::next_states(body), t)
+            card_of(
+                square,
+                predecessors,
+                witnesses,
+                &marks[..n],
+                monitor::next_states(body),
+                t,
+            )
         }
     }
+}
+
+// The card of a table: its states, its monitorability, and the finding for each fault alone, by marks.
+pub fn card(body: &[u8]) -> LinkCard
+    ensures { λ r. ⌜ carded r ≡ cardAnswer stateLimit (now (body .entry)) ⌝ }
+{
+    let mut square = square::blank();
+    let mut predecessors = [0u64; PREDECESSORS];
+    let mut witnesses = [0u8; WITNESS_ROOM];
+    card_in(&mut square, &mut predecessors, &mut witnesses, body)
 }

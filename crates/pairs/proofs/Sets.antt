@@ -1,7 +1,8 @@
 -- The arrays of empty sets that a search begins with.
+use mathlib.Core.List.{List}
 use Prim.Native.Nat.{ℕ, _*_, _≤_}
 use native.Mathlib.Omega.{arith}
-use lib.ListN.{replicate, length-replicate}
+use lib.ListN.{length, replicate, length-replicate}
 use Rattle.theory.specs.Monitor.{symbolLimit}
 use Rattle.state_set.proofs.Words.{set-none}
 use Rattle.rows.specs.Sets.{Empty}
@@ -13,12 +14,12 @@ empty-sets n size room = record {
   none = λ p q l. set-none size p q (omega (arith, l, room));
 }
 
--- the arrays of a search, as they are filled
-pub unused-sets : {n : ℕ} (size many : ℕ) → n * 2 ≤ size → n * symbolLimit * 2 ≤ many
-    → Unused n (replicate size 0) (replicate size 0) (replicate size 0) (replicate many 0)
-unused-sets {n} size many room most = record {
+-- the arrays of a search by pairs, as they are filled
+pub unused-sets : {n : ℕ} {predecessors : List ℕ} (size : ℕ) → n * 2 ≤ size → n * symbolLimit * 2 ≤ length predecessors
+    → Unused n (replicate size 0) (replicate size 0) (replicate size 0) predecessors
+unused-sets {n} size room most = record {
   alike-none = empty-sets n size room;
   fresh-none = empty-sets n size room;
   next-none = empty-sets n size room;
-  predecessors-none = empty-sets (n * symbolLimit) many most;
+  predecessors-size = most;
 }

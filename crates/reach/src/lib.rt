@@ -12,9 +12,6 @@ ghost use Rattle.state_set.specs.Member.{member, setAt, Exactly};
 ghost use Rattle.monitor.specs.Format.{Rows, graph};
 ghost use Rattle.reach.specs.Closure.{leadsTo, Preceding, Joined, Reaching};
 
-// A table of up to so many states has few: its sets take less to fill.
-const FEW: usize = 16;
-
 // The states from which one set can be reached, and those from which another can.
 pub struct Sources {
     pub one: StateSet,
@@ -125,16 +122,12 @@ fn reaching_in(
 }
 
 // For each of two sets of targets: the targets, and the states from which some trace leads into them. Both go by the
-// same predecessors; the sets are as many as the table needs, few or all.
+// same predecessors.
 pub fn reaching(nexts: &[u8], n: usize, k: usize, one: StateSet, other: StateSet) -> Sources
     requires { ⌜ Rows stateLimit n k (now nexts) ⌝ }
     ensures one { λ r. ⌜ Reaching (graph n k (nexts .entry)) one (r .one) ⌝ }
     ensures other { λ r. ⌜ Reaching (graph n k (nexts .entry)) other (r .other) ⌝ }
 {
-    if n <= FEW {
-        let mut sets = [0u64; FEW * WORDS];
-        return reaching_in(&mut sets, nexts, n, k, one, other);
-    }
     let mut sets = [0u64; STATE_LIMIT * WORDS];
     reaching_in(&mut sets, nexts, n, k, one, other)
 }

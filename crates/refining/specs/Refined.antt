@@ -9,16 +9,15 @@ use Rattle.theory.specs.Automaton.{Automaton}
 use Rattle.theory.specs.Monitor.{symbolLimit}
 use Rattle.state_set.specs.Member.{setAt}
 use Rattle.square.specs.Square.{entry, Stage}
-use Rattle.rows.specs.Sets.{Empty}
 use Rattle.partition.specs.Blocks.{block, Parts}
 
--- the arrays that a search is handed: every number is 0, no predecessors are entered, and there is room for n states
+-- the arrays that a search is handed: every number is 0, and there is room for n states
 pub record Unused (n : ℕ) (numbers members splitters predecessors : List ℕ) : Type 0 where
   pub numbers-size : n ≤ length numbers
   pub numbers-none : (q : ℕ) → q < n → block numbers q ≡ 0
   pub members-size : n * 2 ≤ length members
   pub splitters-size : n * 2 ≤ length splitters
-  pub predecessors-none : Empty (n * symbolLimit) predecessors
+  pub predecessors-size : n * symbolLimit * 2 ≤ length predecessors
 
 -- the outputs of two states differ
 abbrev pub Unlike : List ℕ → ℕ → ℕ → Type 0

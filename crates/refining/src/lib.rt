@@ -249,7 +249,8 @@ fn refine(
 }
 
 // Enters how many symbols it takes until the outputs of two states differ, for every two states: round by round, until
-// no block is new. The arrays are unused at first; at the end states that are never told apart have one number.
+// no block is new. The square is blank and the numbers are 0 at first, the predecessors are entered anew; at the end
+// states that are never told apart have one number.
 pub fn enter(
     square: &mut [u16],
     numbers: &mut [u8],

@@ -14,10 +14,19 @@ use Rattle.theory.specs.Automaton.{Automaton, Closed}
 use Rattle.theory.specs.Monitor.{stateLimit, symbolLimit}
 use Rattle.theory.proofs.Below.{clash, lt-or-le}
 use Rattle.state_set.specs.Member.{isPart, setAt, Put}
+use Rattle.state_set.proofs.Words.{words-none}
 use Rattle.square.specs.Square.{place, HasRows, entry}
+use Rattle.square.proofs.Filled.{Filled}
 use Rattle.rows.specs.Sets.{Empty, Preceding, upTo, leading, Into, Entered}
 
 -- ---- predecessors
+
+-- sets whose words are 0 are empty
+pub empty-filled : (n : ℕ) {sets : List ℕ} → n * 2 ≤ length sets → Filled 0 (n * 2) sets → Empty n sets
+empty-filled n room F = record {
+  size = room;
+  none = λ p q l. rw (F .at (p * 2) (omega (arith, l)), F .at (p * 2 + 1) (omega (arith, l)), words-none q) (and-false (ltb q stateLimit));
+}
 
 module _ {g : Automaton} where
   pub preceding-none : {sets : List ℕ} → Empty (g .states * symbolLimit) sets → g .symbols ≤ symbolLimit → Preceding g (upTo 0 0) sets

@@ -1,6 +1,7 @@
 // What a round of the search by pairs adds to the rows of the square, with the sets of states beside them: the
 // predecessors of the states, what leads into a front, and the pairs that are new in a row.
 use state_set::StateSet;
+use state_set::WORDS;
 use theory::STATE_LIMIT;
 use theory::SYMBOL_LIMIT;
 ghost use mathlib.Core.Path.{_≡_};
@@ -14,7 +15,7 @@ ghost use Rattle.theory.specs.Monitor.{stateLimit, symbolLimit};
 ghost use Rattle.state_set.specs.Member.{isPart, inPart, member, setAt};
 ghost use Rattle.monitor.specs.Format.{Rows, graph};
 ghost use Rattle.square.specs.Square.{never, HasRows};
-ghost use Rattle.rows.specs.Sets.{Preceding, upTo, Into, Within, Entered, Retired};
+ghost use Rattle.rows.specs.Sets.{Empty, Preceding, upTo, Into, Within, Entered, Retired};
 ghost use Rattle.rows.specs.Midway.{GoesAt, rowDone, setDone};
 
 // ---- sets of states
@@ -35,6 +36,22 @@ pub fn all_below(n: usize) -> StateSet
 
 // ---- predecessors: a set for each state and symbol
 
+// The words of the predecessors of all states. They are made once and lent to one search after the other.
+pub const PREDECESSORS: usize = STATE_LIMIT * SYMBOL_LIMIT * WORDS;
+
+// Empties the first n sets, whatever they held.
+fn clear(sets: &mut [u64], n: usize)
+    requires { ⌜ n * 2 ≤ length (now sets) ⌝ }
+    ensures { λ _. ⌜ Empty n (now (sets .exit)) ⌝ }
+{
+    let end = n * WORDS;
+    let mut i = 0;
+    while i < end {
+        sets[i] = 0;
+        i += 1;
+    }
+}
+
 // Puts p among the predecessors of each of its successors.
 fn enter_predecessor(sets: &mut [u64], nexts: &[u8], n: usize, k: usize, p: usize)
     requires { ⌜ Rows stateLimit n k (now nexts)
@@ -51,12 +68,13 @@ fn enter_predecessor(sets: &mut [u64], nexts: &[u8], n: usize, k: usize, p: usiz
 }
 
 // Puts every state among the predecessors of its successors: for each state and symbol, the states from which the
-// symbol leads there.
+// symbol leads there. The sets of the n states are filled anew.
 pub fn enter_predecessors(sets: &mut [u64], nexts: &[u8], n: usize, k: usize)
     requires { ⌜ Rows stateLimit n k (now nexts)
-        × Preceding (graph n k nexts) (upTo 0 0) (now sets) ⌝ }
+        × (n * symbolLimit * 2 ≤ length (now sets)) ⌝ }
     ensures { λ _. ⌜ Preceding (graph n k (nexts .entry)) (λ p a. ltb p n) (now (sets .exit)) ⌝ }
 {
+    clear(sets, n * SYMBOL_LIMIT);
     let mut p = 0;
     while p < n {
         enter_predecessor(sets, nexts, n, k, p);

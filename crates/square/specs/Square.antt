@@ -27,7 +27,7 @@ squareSize = stateLimit * stateLimit
 abbrev pub place : ℕ → ℕ → ℕ
 place p q = p * stateLimit + q
 
--- the rows of n states are there: a table of few states has a square of few rows
+-- the rows of n states are there
 abbrev pub HasRows : ℕ → List ℕ → Type 0
 HasRows n square = n * stateLimit ≤ length square
 
@@ -35,10 +35,10 @@ HasRows n square = n * stateLimit ≤ length square
 abbrev pub entry : List ℕ → ℕ → ℕ → ℕ
 entry square p q = getD square (place p q) 0
 
--- the square of n states as it is filled: no pair is told apart
+-- the rows of n states as they are filled: no pair is told apart
 pub record Blank (n : ℕ) (square : List ℕ) : Type 0 where
   pub size : HasRows n square
-  pub filled : (i : ℕ) → i < length square → getD square i 0 ≡ never
+  pub filled : (i : ℕ) → i < n * stateLimit → getD square i 0 ≡ never
 
 -- what an entry stands for
 abbrev pub extent : ℕ → Extent

@@ -18,10 +18,6 @@ pub const NEVER: usize = 65535;
 // The same as an entry of the square.
 const NEVER_ENTRY: u16 = NEVER as u16;
 
-// A table of up to so many states has few: its square has as many rows and its arrays as many sets, since to fill the
-// others would take longer than its search.
-pub const FEW: usize = 16;
-
 // What tells two states apart, by the outputs after the sent and after the received trace.
 pub enum Test {
     // They differ.
@@ -46,18 +42,24 @@ impl Test {
 
 // ---- the square
 
-// The square filled with "not told apart".
+// The square filled with "not told apart". It is made once and lent to one search after the other.
 pub fn blank() -> [u16; SQUARE_SIZE]
     ensures { λ r. ⌜ Blank stateLimit r ⌝ }
 {
     [NEVER_ENTRY; SQUARE_SIZE]
 }
 
-// The rows of the square for few states, filled.
-pub fn blank_few() -> [u16; FEW * STATE_LIMIT]
-    ensures { λ r. ⌜ Blank 16 r ⌝ }
+// Fills the rows of n states anew, whatever they held.
+pub fn clear(square: &mut [u16], n: usize)
+    requires { ⌜ HasRows n (now square) ⌝ }
+    ensures { λ _. ⌜ Blank n (now (square .exit)) ⌝ }
 {
-    [NEVER_ENTRY; FEW * STATE_LIMIT]
+    let end = n * STATE_LIMIT;
+    let mut i = 0;
+    while i < end {
+        square[i] = NEVER_ENTRY;
+        i += 1;
+    }
 }
 
 // An entry as a number of symbols.

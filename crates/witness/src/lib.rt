@@ -6,7 +6,7 @@ use faults::FaultSet;
 use faults::Kind;
 use monitor::Shape;
 use opening::Opened;
-use square::FEW;
+use rows::PREDECESSORS;
 use square::NEVER;
 use square::Test;
 use theory::SQUARE_SIZE;
@@ -21,7 +21,6 @@ ghost use Rattle.theory.specs.Monitor.{stateLimit};
 ghost use Rattle.theory.specs.Series.{Series};
 ghost use Rattle.monitor.specs.Format.{monitorOf};
 ghost use Rattle.monitor.specs.Opening.{monitorIn, TableIn};
-ghost use Rattle.square.specs.Square.{Blank};
 ghost use Rattle.faults.specs.Looks.{Suited};
 ghost use Rattle.layers.specs.Layers.{Explored};
 ghost use Rattle.witness.specs.Figures.{seriesFigures, witnessTrace, roomQuestions, witnessValues, outcome};
@@ -223,9 +222,11 @@ pub fn find_first(
     ))
 }
 
-// The first witness of a table under a reading and a test, in a blank square.
+// The first witness of a table under a reading and a test. The square and the sets of predecessors are working areas:
+// whatever they hold when they are lent, the answer is the same, and nobody reads what they hold afterwards.
 fn search_in(
-    square: &mut [u16],
+    square: &mut [u16; SQUARE_SIZE],
+    predecessors: &mut [u64; PREDECESSORS],
     marks: &[u8],
     nexts: &[u8],
     t: Shape,
@@ -234,8 +235,7 @@ fn search_in(
     test: Test,
     area: &mut [u8],
 ) -> Outcome
-    requires { ⌜ TableIn t marks nexts
-        × Blank (t .states) (now square) ⌝ }
+    requires { ⌜ TableIn t marks nexts ⌝ }
     ensures figures { λ r. let m = monitorIn t (marks .entry) (nexts .entry) in ⌜ outcome r
         ≡ asks (roomQuestions (firstBy test m domain (set .bits)) (length (now (area .entry))))
         (figuresBy test m domain (set .bits)) ⌝ }
@@ -246,7 +246,7 @@ fn search_in(
     let mut outputs = [0u8; STATE_LIMIT];
     readings::write_readings(marks, nexts, t, domain, &mut outputs);
     let read = &outputs[..n];
-    pairs::enter_distances(square, nexts, n, t.symbols, read, test);
+    pairs::enter_distances(square, predecessors, nexts, n, t.symbols, read, test);
     let mut order = layers::blank();
     let mut depths = layers::blank();
     let count = layers::explore(&mut order, &mut depths, nexts, n, t.symbols, t.start);
@@ -263,31 +263,6 @@ fn search_in(
         test,
         area,
     )
-}
-
-// The same: the square has as many rows as the table needs, few or all.
-fn search_reading(
-    marks: &[u8],
-    nexts: &[u8],
-    t: Shape,
-    set: FaultSet,
-    domain: usize,
-    test: Test,
-    area: &mut [u8],
-) -> Outcome
-    requires { ⌜ TableIn t marks nexts ⌝ }
-    ensures figures { λ r. let m = monitorIn t (marks .entry) (nexts .entry) in ⌜ outcome r
-        ≡ asks (roomQuestions (firstBy test m domain (set .bits)) (length (now (area .entry))))
-        (figuresBy test m domain (set .bits)) ⌝ }
-    ensures area { λ r. let m = monitorIn t (marks .entry) (nexts .entry) in ⌜ now (area .exit)
-        ≡ written (outcome r) (witnessTrace (firstBy test m domain (set .bits))) (now (area .entry)) ⌝ }
-{
-    if t.states <= FEW {
-        let mut square = square::blank_few();
-        return search_in(&mut square, marks, nexts, t, set, domain, test, area);
-    }
-    let mut square = square::blank();
-    search_in(&mut square, marks, nexts, t, set, domain, test, area)
 }
 
 // Whether the verdict that a test names, if any, is one of the reading.
@@ -309,6 +284,8 @@ fn refused(number: usize) -> Outcome
 
 // The first witness of an opened table: questions 9, 10 and 19, and the set that the number stands for.
 fn ask_table(
+    square: &mut [u16; SQUARE_SIZE],
+    sets: &mut [u64; PREDECESSORS],
     marks: &[u8],
     nexts: &[u8],
     t: Shape,
@@ -333,12 +310,20 @@ fn ask_table(
     if !is_of_reading(test, domain) {
         return refused(19);
     }
-    search_reading(marks, nexts, t, FaultSet::of(set), domain, test, area)
+    let faults = FaultSet::of(set);
+    search_in(square, sets, marks, nexts, t, faults, domain, test, area)
 }
 
-// The first series of a table with one fault of the set whose readings, by marks (domain 3) or by classes (domain 6),
-// pass the test. Its sent trace goes into the area, which is otherwise left as it was.
-pub fn first_witness(body: &[u8], set: usize, domain: usize, test: Test, area: &mut [u8]) -> Outcome
+// `first_witness` with the working areas lent, for a caller that asks more than once.
+pub fn first_witness_in(
+    square: &mut [u16; SQUARE_SIZE],
+    predecessors: &mut [u64; PREDECESSORS],
+    body: &[u8],
+    set: usize,
+    domain: usize,
+    test: Test,
+    area: &mut [u8],
+) -> Outcome
     ensures figures { λ r. ⌜ outcome r
         ≡ witnessAnswer stateLimit (now (body .entry)) test set domain (length (now (area .entry))) ⌝ }
     ensures area { λ _. ⌜ now (area .exit)
@@ -351,6 +336,8 @@ pub fn first_witness(body: &[u8], set: usize, domain: usize, test: Test, area: &
         Opened::Table(t) => {
             let n = t.states;
             ask_table(
+                square,
+                predecessors,
                 &marks[..n],
                 monitor::next_states(body),
                 t,
@@ -361,4 +348,26 @@ pub fn first_witness(body: &[u8], set: usize, domain: usize, test: Test, area: &
             )
         }
     }
+}
+
+// The first series of a table with one fault of the set whose readings, by marks (domain 3) or by classes (domain 6),
+// pass the test. Its sent trace goes into the area, which is otherwise left as it was.
+pub fn first_witness(body: &[u8], set: usize, domain: usize, test: Test, area: &mut [u8]) -> Outcome
+    ensures figures { λ r. ⌜ outcome r
+        ≡ witnessAnswer stateLimit (now (body .entry)) test set domain (length (now (area .entry))) ⌝ }
+    ensures area { λ _. ⌜ now (area .exit)
+        ≡ written (witnessAnswer stateLimit (now (body .entry)) test set domain (length (now (area .entry))))
+        (witnessTrace (firstBy test (monitorOf (now (body .entry))) domain set)) (now (area .entry)) ⌝ }
+{
+    let mut square = square::blank();
+    let mut predecessors = [0u64; PREDECESSORS];
+    first_witness_in(
+        &mut square,
+        &mut predecessors,
+        body,
+        set,
+        domain,
+        test,
+        area,
+    )
 }

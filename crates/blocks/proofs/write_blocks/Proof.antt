@@ -1,8 +1,8 @@
 -- `write_blocks` meets its contract: the blocks of the search are those of states that are never told apart.
 use mathlib.Core.Path.{sym, _∙_}
-use Prim.Native.Nat.{_*_}
+use Prim.Native.Nat.{ℕ, _*_}
 use native.Mathlib.Omega.{arith}
-use lib.ListN.{take}
+use lib.ListN.{take, length-replicate}
 use borrow.Author.Needs.{needs}
 use Rattle.theory.specs.Monitor.{stateLimit, symbolLimit, reading}
 use Rattle.theory.proofs.Values.{filled-read, filled-count}
@@ -21,7 +21,8 @@ enter-requires c κs =
     let p = c₆ .before .before .before .before .before .before .before .pre .0 in
     let few = p .rows .states-most in (
       record { size = search needs; filled = λ i l. c₆ .blank .ensures .filled i (omega (arith, l, few)) },
-      unused-numbers stateLimit (stateLimit * 2) (stateLimit * symbolLimit * 2) few (omega (arith, few)) (omega (arith, few)),
+      unused-numbers stateLimit (stateLimit * 2) few (omega (arith, few))
+          (rw (length-replicate {A = ℕ} (stateLimit * symbolLimit * 2) 0) (omega (arith, few))),
       p .rows,
       sym (filled-count _ _ _ (c₆ .before .before .write-readings .ensures)),
     )

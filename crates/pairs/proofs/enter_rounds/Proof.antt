@@ -17,7 +17,6 @@ use Rattle.square.proofs.Path.{squared-same}
 use Rattle.rows.specs.Sets.{Empty, Active}
 use Rattle.rows.specs.Midway.{Ground}
 use Rattle.rows.proofs.Visit.{empty-none, empty-some}
-use Rattle.rows.proofs.Gather.{preceding-none}
 use Rattle.rows.proofs.Several.{Same, same-first}
 use Rattle.rounds.specs.Layers.{Layer}
 use Rattle.rounds.proofs.Layers.{layer-early, layer-last}
@@ -40,7 +39,7 @@ abbrev μ-loop : tie.MeasureT-loop
 
 enter-predecessors-requires : tie.Need-enter-predecessors-requires Inv-loop μ-loop
 enter-predecessors-requires c κs = (let p = c .before .before .before .before .before .before .before .before .pre in
-    (p .2, preceding-none (p .1 .predecessors-none) (p .2 .symbols-most)))
+    (p .2, p .1 .predecessors-size))
 
 all-below-requires : tie.Need-all-below-requires Inv-loop μ-loop
 all-below-requires c κs =

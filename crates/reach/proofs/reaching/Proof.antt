@@ -1,4 +1,4 @@
--- `reaching` meets its contract: either way the sets are empty, and there is room for n states.
+-- `reaching` meets its contract: the sets are empty, and there is room for n states.
 use Prim.Native.Nat.{_*_}
 use native.Mathlib.Omega.{arith}
 use borrow.Author.Needs.{needs}
@@ -8,12 +8,7 @@ use Rattle.reach.proofs.reaching.Statement.{statement}
 use Rattle.reach.proofs.reaching.Tie as tie
 
 reaching-in-requires : tie.Need-reaching-in-requires
-reaching-in-requires c κs = (c .before .before .before .pre, preceding-none (16 * 2) (omega (arith, c .before .if1 .taken)))
-
-reaching-in-requires-2 : tie.Need-reaching-in-requires-2
-reaching-in-requires-2 c κs = (let rows = c .before .before .before .pre in (rows, preceding-none (stateLimit * 2) (omega (arith, rows .states-most))))
+reaching-in-requires c κs = (let rows = c .before .before .pre in (rows, preceding-none (stateLimit * 2) (omega (arith, rows .states-most))))
 
 pub reaching-spec : {M : Type 1} → statement M
-reaching-spec =
-    tie.close (tie.spec
-    (λ c. search needs) reaching-in-requires (λ c. search needs) (λ c. search needs) reaching-in-requires-2 (λ c. search needs))
+reaching-spec = tie.close (tie.spec (λ c. search needs) reaching-in-requires (λ c. search needs))

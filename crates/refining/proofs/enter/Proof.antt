@@ -10,7 +10,6 @@ use Rattle.monitor.specs.Format.{automatonOf}
 use Rattle.monitor.proofs.Rows.{next-of-rows}
 use Rattle.square.specs.declared.Test.the-variants.{Differ}
 use Rattle.square.specs.Square.{passing}
-use Rattle.rows.proofs.Gather.{preceding-none}
 use Rattle.rows.proofs.Several.{Same, same-first, same-then}
 use Rattle.partition.specs.Blocks.{Partition}
 use Rattle.partition.proofs.Splits.{blocks-few}
@@ -35,7 +34,7 @@ returns c =
 enter-predecessors-requires : tie.Need-enter-predecessors-requires Inv-loop μ-loop
 enter-predecessors-requires c κs =
     let start = c .before .before .before .before .before .before .before .before .before in
-    (let p = start .pre in (p .2, preceding-none (p .1 .predecessors-none) (p .2 .symbols-most)))
+    (start .pre .2, start .pre .1 .predecessors-size)
 
 all-below-requires : tie.Need-all-below-requires Inv-loop μ-loop
 all-below-requires c κs =

@@ -30,13 +30,13 @@ returns-3 c =
 
 returns-4 : tie.Need-returns-4
 returns-4 c =
-    let r = c .before .before .before .before .before in
+    let r = c .before .before .before .before .before .before .before in
     let l : r .before .before .before .before .before .before .before .before .args .set ≤ allFaults = omega
     (arith, r .before .before .before .before .if1 .left) in
     let known = sym (r .before .before .before .is-reading .ensures) ∙ not-false _ (r .before .before .if2 .left) in
     let its = sym (r .before .is-of-reading .ensures) ∙ not-false _ (r .if3 .left) in
-    let e = c .before .before .search-reading .ensures in
-    rw (le-leb _ _ l, known, its, ← set-is (c .before .before .before .before .of .ensures) l) e
+    let e = c .before .before .search-in .ensures in
+    rw (le-leb _ _ l, known, its, ← set-is (c .before .before .before .before .before .before .of .ensures) l) e
 
 pub ask-table-spec : {M : Type 1} → statement M
 ask-table-spec =
