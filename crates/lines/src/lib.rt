@@ -5,6 +5,9 @@ use faults::KINDS;
 use immunity::Column;
 use immunity::Finding;
 use immunity::Summary;
+use rows::PREDECESSORS;
+use theory::SQUARE_SIZE;
+use witness::WITNESS_ROOM;
 ghost use mathlib.Core.Path.{_≡_};
 ghost use mathlib.Core.List.{[], _++_};
 ghost use Prim.Native.Nat.{_+_, _*_, _≤_};
@@ -150,13 +153,20 @@ fn put_refusal(rule: usize, refusal: Refusal, buffer: &mut [u8]) -> usize
     put(b"\n", buffer, at)
 }
 
-// The line of a rule with its body.
-fn put_rule(rule: usize, body: &[u8], buffer: &mut [u8]) -> usize
+// The line of a rule with its body. The first three areas are those of `immunity::card_in`.
+fn put_rule(
+    square: &mut [u16; SQUARE_SIZE],
+    predecessors: &mut [u64; PREDECESSORS],
+    witnesses: &mut [u8; WITNESS_ROOM],
+    rule: usize,
+    body: &[u8],
+    buffer: &mut [u8],
+) -> usize
     requires { ⌜ lineRoom ≤ length (now buffer) ⌝ }
     ensures { λ r. ⌜ Put (ruleLine stateLimit rule (now (body .entry))) (now (buffer .entry)) 0
         (now (buffer .exit)) r ⌝ }
 {
-    let card = immunity::card(body);
+    let card = immunity::card_in(square, predecessors, witnesses, body);
     let summary = card.summary;
     let columns = card.columns;
     match summary {
@@ -168,8 +178,16 @@ fn put_rule(rule: usize, body: &[u8], buffer: &mut [u8]) -> usize
     }
 }
 
-// Writes the line of a rule and its body into the area.
-pub fn write_line(rule: usize, body: &[u8], area: &mut [u8]) -> Writing
+// `write_line` with the working areas lent, for a caller that writes more than one: whatever they hold, the line is the
+// same, and nobody reads what they hold afterwards.
+pub fn write_line_in(
+    square: &mut [u16; SQUARE_SIZE],
+    predecessors: &mut [u64; PREDECESSORS],
+    witnesses: &mut [u8; WITNESS_ROOM],
+    rule: usize,
+    body: &[u8],
+    area: &mut [u8],
+) -> Writing
     ensures figures { λ r. ⌜ lengthWritten r
         ≡ lineAnswer stateLimit rule (now (body .entry)) (length (now (area .entry))) ⌝ }
     ensures area { λ _. ⌜ now (area .exit)
@@ -177,7 +195,7 @@ pub fn write_line(rule: usize, body: &[u8], area: &mut [u8]) -> Writing
         (ruleLine stateLimit rule (now (body .entry))) (now (area .entry)) ⌝ }
 {
     let mut buffer = [0u8; LINE_ROOM];
-    let length = put_rule(rule, body, &mut buffer);
+    let length = put_rule(square, predecessors, witnesses, rule, body, &mut buffer);
     if area.len() < length {
         return Writing::Refused(Refusal {
             number: 13,
@@ -186,4 +204,25 @@ pub fn write_line(rule: usize, body: &[u8], area: &mut [u8]) -> Writing
     }
     bytes::copy(&buffer[..length], area);
     Writing::Written { length }
+}
+
+// Writes the line of a rule and its body into the area.
+pub fn write_line(rule: usize, body: &[u8], area: &mut [u8]) -> Writing
+    ensures figures { λ r. ⌜ lengthWritten r
+        ≡ lineAnswer stateLimit rule (now (body .entry)) (length (now (area .entry))) ⌝ }
+    ensures area { λ _. ⌜ now (area .exit)
+        ≡ written (lineAnswer stateLimit rule (now (body .entry)) (length (now (area .entry))))
+        (ruleLine stateLimit rule (now (body .entry))) (now (area .entry)) ⌝ }
+{
+    let mut square = square::blank();
+    let mut predecessors = [0u64; PREDECESSORS];
+    let mut witnesses = [0u8; WITNESS_ROOM];
+    write_line_in(
+        &mut square,
+        &mut predecessors,
+        &mut witnesses,
+        rule,
+        body,
+        area,
+    )
 }

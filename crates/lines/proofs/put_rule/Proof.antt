@@ -9,17 +9,17 @@ use Rattle.lines.proofs.put_rule.Tie as tie
 put-card-requires : tie.Need-put-card-requires
 put-card-requires c κs =
     let k = c .before .before .before .before .before in
-    (columns-counted stateLimit _ (k .card .result) (k .card .ensures), k .before .before .before .pre)
+    (columns-counted stateLimit _ (k .card-in .result) (k .card-in .ensures), k .before .before .before .before .before .before .pre)
 
 returns : tie.Need-returns
 returns c =
-    let k = c .before .before .before .before .before .before .before .before .card in
+    let k = c .before .before .before .before .before .before .before .before .card-in in
     let is = c .before .before .before .before .before .summary .given .1 in
     put-as (rule-carded stateLimit _ (k .result) (k .ensures) _ is) (c .before .before .put-card .ensures)
 
 returns-2 : tie.Need-returns-2
 returns-2 c =
-    let k = c .before .before .before .before .before .before .before .before .card in
+    let k = c .before .before .before .before .before .before .before .before .card-in in
     let is = c .before .before .before .before .before .summary2 .given .1 in
     put-as (rule-refused stateLimit _ (k .result) (k .ensures) _ is) (c .before .before .put-refusal .ensures)
 
