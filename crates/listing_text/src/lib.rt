@@ -2,6 +2,9 @@
 use basics::Refusal;
 use basics::Writing;
 use collection::Collected;
+use rows::PREDECESSORS;
+use theory::SQUARE_SIZE;
+use witness::WITNESS_ROOM;
 ghost use mathlib.Core.Path.{_≡_};
 ghost use Prim.Native.Nat.{_+_, _*_, _≤_};
 ghost use lib.ListN.{length};
@@ -20,7 +23,15 @@ const INPUT_LIMIT: usize = 65536;
 pub const LISTING_ROOM: usize = 46 + collection::ENTRY_LIMIT * 41;
 
 // Puts the line of entry i behind the first `at` bytes of the buffer, and answers where it ends.
-fn put_line(file: &[u8], i: usize, buffer: &mut [u8], at: usize) -> usize
+fn put_line(
+    square: &mut [u16; SQUARE_SIZE],
+    predecessors: &mut [u64; PREDECESSORS],
+    witnesses: &mut [u8; WITNESS_ROOM],
+    file: &[u8],
+    i: usize,
+    buffer: &mut [u8],
+    at: usize,
+) -> usize
     requires { ⌜ (length (now file) ≤ inputLimit)
         × (at + lineMost ≤ length (now buffer)) ⌝ }
     ensures { λ r. ⌜ Put (entryLine stateLimit (now (file .entry)) i) (now (buffer .entry)) at (now (buffer .exit)) r
@@ -28,14 +39,21 @@ fn put_line(file: &[u8], i: usize, buffer: &mut [u8], at: usize) -> usize
 {
     let rule = collection::rule_number(file, i);
     let body = collection::body(file, i);
-    match lines::write_line(rule, body, &mut buffer[at..]) {
+    match lines::write_line_in(square, predecessors, witnesses, rule, body, &mut buffer[at..]) {
         Writing::Written { length } => at + length,
         Writing::Refused(_) => at,
     }
 }
 
 // The header, and a line for each entry.
-fn put_lines(file: &[u8], count: usize, buffer: &mut [u8]) -> usize
+fn put_lines(
+    square: &mut [u16; SQUARE_SIZE],
+    predecessors: &mut [u64; PREDECESSORS],
+    witnesses: &mut [u8; WITNESS_ROOM],
+    file: &[u8],
+    count: usize,
+    buffer: &mut [u8],
+) -> usize
     requires { ⌜ (length (now file) ≤ inputLimit)
         × (count ≡ countOf (now file))
         × (count ≤ entryLimit)
@@ -43,17 +61,35 @@ fn put_lines(file: &[u8], count: usize, buffer: &mut [u8]) -> usize
     ensures { λ r. ⌜ Put (acceptedText stateLimit (now (file .entry))) (now (buffer .entry)) 0
         (now (buffer .exit)) r ⌝ }
 {
-    let mut end = lines::put(
-        b"rule states class loss corruption repeat swap\n",
-        buffer,
-        0,
-    );
+    let mut end = lines::put(b"rule states class loss corruption repeat swap\n", buffer, 0);
     let mut i = 0;
     while i < count {
-        end = put_line(file, i, buffer, end);
+        end = put_line(square, predecessors, witnesses, file, i, buffer, end);
         i += 1;
     }
     end
+}
+
+// The same, with the working areas made once for all tables.
+fn put_accepted(file: &[u8], count: usize, buffer: &mut [u8]) -> usize
+    requires { ⌜ (length (now file) ≤ inputLimit)
+        × (count ≡ countOf (now file))
+        × (count ≤ entryLimit)
+        × (listingRoom ≤ length (now buffer)) ⌝ }
+    ensures { λ r. ⌜ Put (acceptedText stateLimit (now (file .entry))) (now (buffer .entry)) 0
+        (now (buffer .exit)) r ⌝ }
+{
+    let mut square = square::blank();
+    let mut predecessors = [0u64; PREDECESSORS];
+    let mut witnesses = [0u8; WITNESS_ROOM];
+    put_lines(
+        &mut square,
+        &mut predecessors,
+        &mut witnesses,
+        file,
+        count,
+        buffer,
+    )
 }
 
 // The one line of a refused collection.
@@ -76,7 +112,7 @@ fn put_listing(file: &[u8], buffer: &mut [u8]) -> usize
         return put_refused(26, buffer);
     }
     match collection::judge(file) {
-        Collected::Accepted { count } => put_lines(file, count, buffer),
+        Collected::Accepted { count } => put_accepted(file, count, buffer),
         Collected::Refused(r) => put_refused(r.number, buffer),
     }
 }

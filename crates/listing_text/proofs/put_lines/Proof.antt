@@ -14,18 +14,20 @@ use Rattle.listing_text.proofs.put_lines.Statement.{statement}
 use Rattle.listing_text.proofs.put_lines.Tie as tie
 
 abbrev Inv-loop : tie.InvT-loop
-Inv-loop file count buffer₀ end₀ i₀ buffer end i = (i ≤ count) × LinesPut stateLimit file buffer₀ end₀ buffer end i
+Inv-loop square₀ predecessors₀ witnesses₀ file count buffer₀ end₀ i₀ square predecessors witnesses buffer end i =
+    (i ≤ count) × LinesPut stateLimit file buffer₀ end₀ buffer end i
 
 abbrev μ-loop : tie.MeasureT-loop
-μ-loop file count buffer₀ end₀ i₀ buffer end i = count - i
+μ-loop square₀ predecessors₀ witnesses₀ file count buffer₀ end₀ i₀ square predecessors witnesses buffer end i = count - i
 
 loop-holds : tie.Need-loop-holds Inv-loop μ-loop
 loop-holds c = (omega arith, lines-none stateLimit _ _ _)
 
 loop-again : tie.Need-loop-again Inv-loop μ-loop
 loop-again c =
-    let l = c .before .before .before .before .before .loop in
-    (omega (arith, c .before .before .before .before .loop-test .taken), lines-more (l .inv .1) (c .before .before .put-line .ensures))
+    let at = c .before .before .before .before .before .before .before in
+    let l = at .before .loop in
+    (omega (arith, at .loop-test .taken), lines-more (l .inv .1) (c .before .before .put-line .ensures))
 
 returns : tie.Need-returns Inv-loop μ-loop
 returns c =

@@ -12,8 +12,8 @@ use Rattle.listing_text.proofs.put_listing.Tie as tie
 returns : tie.Need-returns
 returns c = put-as (text-longer stateLimit _ (c .before .before .before .before .if1 .taken)) (c .before .before .put-refused .ensures)
 
-put-lines-requires : tie.Need-put-lines-requires
-put-lines-requires c κs =
+put-accepted-requires : tie.Need-put-accepted-requires
+put-accepted-requires c κs =
     let judged = c .before .before .before .before in
     let s = judged .before .before .before .before in
     let file = s .args .file .now in
@@ -25,7 +25,7 @@ returns-2 : tie.Need-returns-2
 returns-2 c =
     let judged = c .before .before .before .before .before .before .before in
     let answers = sym (ap collected (c .before .before .before .before .before .count .given .1)) ∙ judged .judge .ensures in
-    put-as (text-accepted stateLimit _ (judged .before .if1 .left) answers) (c .before .before .put-lines .ensures)
+    put-as (text-accepted stateLimit _ (judged .before .if1 .left) answers) (c .before .before .put-accepted .ensures)
 
 returns-3 : tie.Need-returns-3
 returns-3 c =
@@ -36,5 +36,5 @@ returns-3 c =
 pub put-listing-spec : {M : Type 1} → statement M
 put-listing-spec =
     tie.close (tie.spec
-    (λ c κs. search needs) (λ c. search needs) returns (λ c κs. search needs) (λ c. search needs) put-lines-requires
+    (λ c κs. search needs) (λ c. search needs) returns (λ c κs. search needs) (λ c. search needs) put-accepted-requires
     (λ c. search needs) (λ c κs. search needs) (λ c. search needs) returns-2 (λ c. search needs) returns-3)
