@@ -1,9 +1,13 @@
 // Answers questions from standard input, a line each, for a test outside that has answers of its own to compare.
 // A question is a frame: the length of what follows in two bytes, least byte first; the call; three numbers, a byte
 // each; and the call's bytes.
+// The working areas of the searches are made once and lent to one question after the other.
 use basics::Writing;
 use output::Output;
 use output::Program;
+use rows::PREDECESSORS;
+use theory::SQUARE_SIZE;
+use witness::WITNESS_ROOM;
 ghost use Prim.Native.Nat.{_+_, _≤_, _<_};
 ghost use lib.ListN.{length};
 
@@ -29,20 +33,35 @@ fn trace(out: Output, domain: usize, length: usize, bytes: &[u8]) -> Output {
 }
 
 // Call 4: the numbers are the fault set, the reading and the length of the area, which is full of 255 before the call.
-fn examine(out: Output, set: usize, domain: usize, room: usize, body: &[u8]) -> Output {
+fn examine(
+    square: &mut [u16; SQUARE_SIZE],
+    predecessors: &mut [u64; PREDECESSORS],
+    out: Output,
+    set: usize,
+    domain: usize,
+    room: usize,
+    body: &[u8],
+) -> Output {
     let mut area = [255u8; 256];
     if room <= 256 {
         let lent = &mut area[0..room];
-        let answer = immunity::examine(body, set, domain, lent);
+        let answer = immunity::examine_in(square, predecessors, body, set, domain, lent);
         return printing::bytes(printing::counted_finding(out, answer), lent);
     }
     out
 }
 
 // Call 5: the card, as the listing's line of rule 0 has it between the rule number and the line feed.
-fn card(out: Output, body: &[u8]) -> Output {
+fn card(
+    square: &mut [u16; SQUARE_SIZE],
+    predecessors: &mut [u64; PREDECESSORS],
+    witnesses: &mut [u8; WITNESS_ROOM],
+    out: Output,
+    body: &[u8],
+) -> Output {
     let mut area = [0u8; 256];
-    let Writing::Written { length } = lines::write_line(0, body, &mut area) else {
+    let written = lines::write_line_in(square, predecessors, witnesses, 0, body, &mut area);
+    let Writing::Written { length } = written else {
         return out;
     };
     if length >= 3 {
@@ -88,13 +107,21 @@ fn write(out: Output, rules: usize, lengths: usize, room: usize, bytes: &[u8]) -
 
 // Call 7: the numbers are the fault set, the reading and the verdict. The length of the area, which is full of 255
 // before the call, stands before the body in two bytes.
-fn believe(out: Output, set: usize, domain: usize, verdict: usize, bytes: &[u8]) -> Output {
+fn believe(
+    square: &mut [u16; SQUARE_SIZE],
+    predecessors: &mut [u64; PREDECESSORS],
+    out: Output,
+    set: usize,
+    domain: usize,
+    verdict: usize,
+    bytes: &[u8],
+) -> Output {
     let mut area = [255u8; 1024];
     let room = two_bytes(bytes) as usize;
     if room <= 1024 {
         let lent = &mut area[0..room];
         let body = basics::part(bytes, 2, bytes.len());
-        let answer = trust::believe(body, set, domain, verdict, lent);
+        let answer = trust::believe_in(square, predecessors, body, set, domain, verdict, lent);
         return printing::bytes(printing::counted_trust(out, answer), lent);
     }
     out
@@ -121,7 +148,14 @@ fn list_blocks(out: Output, domain: usize, room: usize, body: &[u8]) -> Output {
 }
 
 // The answer to a frame that has its numbers.
-fn answered(out: Output, frame: &[u8], bytes: &[u8]) -> Output {
+fn answered(
+    square: &mut [u16; SQUARE_SIZE],
+    predecessors: &mut [u64; PREDECESSORS],
+    witnesses: &mut [u8; WITNESS_ROOM],
+    out: Output,
+    frame: &[u8],
+    bytes: &[u8],
+) -> Output {
     let a = basics::byte_at(frame, 1);
     let b = basics::byte_at(frame, 2);
     let c = basics::byte_at(frame, 3);
@@ -129,19 +163,25 @@ fn answered(out: Output, frame: &[u8], bytes: &[u8]) -> Output {
         0 => printing::judgement(out, monitor::judge(bytes)),
         1 => classify(out, a, bytes),
         2 => printing::stepped(out, readings::step(bytes, a, b, c)),
-        4 => examine(out, a, b, c, bytes),
-        5 => card(out, bytes),
+        4 => examine(square, predecessors, out, a, b, c, bytes),
+        5 => card(square, predecessors, witnesses, out, bytes),
         6 => write(out, a, b, c, bytes),
-        7 => believe(out, a, b, c, bytes),
+        7 => believe(square, predecessors, out, a, b, c, bytes),
         8 => proof(out, a, b, c, bytes),
         9 => list_blocks(out, a, b, bytes),
         _ => trace(out, a, b, bytes),
     }
 }
 
-fn answer(frame: &[u8]) {
+fn answer(
+    square: &mut [u16; SQUARE_SIZE],
+    predecessors: &mut [u64; PREDECESSORS],
+    witnesses: &mut [u8; WITNESS_ROOM],
+    frame: &[u8],
+) {
     if frame.len() >= 4 {
-        answered(output::standard(Program::Test), frame, &frame[4..]).text(b"\n");
+        let out = output::standard(Program::Test);
+        answered(square, predecessors, witnesses, out, frame, &frame[4..]).text(b"\n");
     }
 }
 
@@ -165,11 +205,16 @@ fn frame_end(input: &[u8], at: usize) -> usize
     input.len()
 }
 
-fn answers(input: &[u8]) {
+fn answers(
+    square: &mut [u16; SQUARE_SIZE],
+    predecessors: &mut [u64; PREDECESSORS],
+    witnesses: &mut [u8; WITNESS_ROOM],
+    input: &[u8],
+) {
     let mut at = 0;
     while at + 2 <= input.len() {
         let end = frame_end(input, at);
-        answer(&input[at + 2..end]);
+        answer(square, predecessors, witnesses, &input[at + 2..end]);
         at = end;
     }
 }
@@ -177,5 +222,13 @@ fn answers(input: &[u8]) {
 fn main() {
     let mut input = [0u8; 65536];
     let length = io::read_full(0, &mut input);
-    answers(&input[..length]);
+    let mut square = square::blank();
+    let mut predecessors = [0u64; PREDECESSORS];
+    let mut witnesses = [0u8; WITNESS_ROOM];
+    answers(
+        &mut square,
+        &mut predecessors,
+        &mut witnesses,
+        &input[..length],
+    );
 }

@@ -6,10 +6,10 @@ use Rattle.probe.proofs.answers.Statement.{statement}
 use Rattle.probe.proofs.answers.Tie as tie
 
 abbrev Inv-loop : tie.InvT-loop
-Inv-loop input at₀ at = at ≤ length input
+Inv-loop square₀ predecessors₀ witnesses₀ input at₀ square predecessors witnesses at = at ≤ length input
 
 abbrev μ-loop : tie.MeasureT-loop
-μ-loop input at₀ at = length input - at
+μ-loop square₀ predecessors₀ witnesses₀ input at₀ square predecessors witnesses at = length input - at
 
 loop-holds : tie.Need-loop-holds Inv-loop μ-loop
 loop-holds c = search needs
