@@ -39,7 +39,14 @@ fn put_line(
 {
     let rule = collection::rule_number(file, i);
     let body = collection::body(file, i);
-    match lines::write_line_in(square, predecessors, witnesses, rule, body, &mut buffer[at..]) {
+    match lines::write_line_in(
+        square,
+        predecessors,
+        witnesses,
+        rule,
+        body,
+        &mut buffer[at..],
+    ) {
         Writing::Written { length } => at + length,
         Writing::Refused(_) => at,
     }
@@ -61,7 +68,11 @@ fn put_lines(
     ensures { λ r. ⌜ Put (acceptedText stateLimit (now (file .entry))) (now (buffer .entry)) 0
         (now (buffer .exit)) r ⌝ }
 {
-    let mut end = lines::put(b"rule states class loss corruption repeat swap\n", buffer, 0);
+    let mut end = lines::put(
+        b"rule states class loss corruption repeat swap\n",
+        buffer,
+        0,
+    );
     let mut i = 0;
     while i < count {
         end = put_line(square, predecessors, witnesses, file, i, buffer, end);
