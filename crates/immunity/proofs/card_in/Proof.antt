@@ -13,15 +13,19 @@ use Rattle.immunity.proofs.card_in.Statement.{statement}
 use Rattle.immunity.proofs.card_in.Tie as tie
 
 array-share-prefix-marks : tie.Need-array-share-prefix-marks
-array-share-prefix-marks c = marks-lie (opened-yes stateLimit _ _ (c .before .before .before .before .before .before .before .«open» .ensures) (c .before .before .before .before .t .given .1))
+array-share-prefix-marks c =
+    marks-lie (opened-yes stateLimit _ _ (c .before .before .before .before .before .before .before .«open» .ensures)
+    (c .before .before .before .before .t .given .1))
 
 slice-aggregate-card-of : tie.Need-slice-aggregate-card-of
 slice-aggregate-card-of c =
-    marks-counted (opened-yes stateLimit _ _ (c .before .before .before .before .before .before .before .before .«open» .ensures) (c .before .before .before .before .before .t .given .1))
+    marks-counted (opened-yes stateLimit _ _ (c .before .before .before .before .before .before .before .before .«open» .ensures)
+    (c .before .before .before .before .before .t .given .1))
 
 card-of-requires : tie.Need-card-of-requires
 card-of-requires c κs =
-    table-handed (opened-yes stateLimit _ _ (c .before .before .before .before .before .before .before .before .before .«open» .ensures) (c .before .before .before .before .before .before .t .given .1)) (c .next-states .ensures)
+    table-handed (opened-yes stateLimit _ _ (c .before .before .before .before .before .before .before .before .before .«open» .ensures)
+    (c .before .before .before .before .before .before .t .given .1)) (c .next-states .ensures)
 
 returns : tie.Need-returns
 unfolding cardAnswer judgeAnswer

@@ -10,11 +10,14 @@ use Rattle.witness.proofs.first_witness_in.Statement.{statement}
 use Rattle.witness.proofs.first_witness_in.Tie as tie
 
 array-share-prefix-marks : tie.Need-array-share-prefix-marks
-array-share-prefix-marks c = marks-lie (opened-yes stateLimit _ _ (c .before .before .before .before .before .before .«open» .ensures) (c .before .before .before .t .given .1))
+array-share-prefix-marks c =
+    marks-lie (opened-yes stateLimit _ _ (c .before .before .before .before .before .before .«open» .ensures)
+    (c .before .before .before .t .given .1))
 
 slice-aggregate-ask-table : tie.Need-slice-aggregate-ask-table
 slice-aggregate-ask-table c =
-    marks-counted (opened-yes stateLimit _ _ (c .before .before .before .before .before .before .before .«open» .ensures) (c .before .before .before .before .t .given .1))
+    marks-counted (opened-yes stateLimit _ _ (c .before .before .before .before .before .before .before .«open» .ensures)
+    (c .before .before .before .before .t .given .1))
 
 ask-table-requires : tie.Need-ask-table-requires
 ask-table-requires c κs =
