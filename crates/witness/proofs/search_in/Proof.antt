@@ -1,4 +1,5 @@
 -- `search_in` meets its contract.
+use native.Mathlib.Omega.{arith}
 use mathlib.Core.Path.{sym}
 use lib.ListN.{length, take}
 use borrow.Author.Needs.{needs}
@@ -23,7 +24,7 @@ enter-distances-requires c κs =
 explore-requires : tie.Need-explore-requires
 explore-requires c κs =
     let s = c .before .before .before .before .before .before .before .before .before .before .before .before .before .before in
-    (s .pre .rows, s .pre .well-formed .start-in, c .before .before .before .blank .ensures, c .before .before .blank2 .ensures)
+    (s .pre .rows, omega (arith, s .pre .well-formed .start-in), c .before .before .before .blank .ensures, c .before .before .blank2 .ensures)
 
 find-first-requires : tie.Need-find-first-requires
 find-first-requires c κs =
