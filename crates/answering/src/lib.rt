@@ -1,4 +1,6 @@
 // The answers of the program `ask` about a body, the body of a rule of a collection, or that collection.
+#![tactic(auto)]
+
 use asking::asked::{Form, Subject};
 use basics::Writing;
 use classes::Classification;

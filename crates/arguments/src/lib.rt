@@ -1,4 +1,6 @@
 // A program's arguments: decimal numbers of any length, and words.
+#![tactic(auto)]
+
 ghost use Rattle.std.specs.Prelude.{◌≡◌, ◌≤◌};
 ghost use Rattle.arguments.specs.Numbers.{is_digit, decimal_of, two_bytes_of};
 

@@ -1,5 +1,7 @@
 // Answers one question: the question as arguments, the body, the collection or the bodies on standard input, the answer
 // as one line on standard output.
+#![tactic(auto)]
+
 mod words;
 
 ghost use Rattle.std.specs.Prelude.{◌≤◌};

@@ -1,4 +1,6 @@
 // What all layers use and none of them is about: a refusal, a length written, and bytes and parts of a slice.
+#![tactic(auto)]
+
 ghost use Rattle.std.specs.Prelude.{◌≡◌, ◌<◌, min, get_or, take, drop};
 
 // The number of the question that was answered no, and its place.

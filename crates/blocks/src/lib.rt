@@ -1,4 +1,6 @@
 // Making a certificate: the block of a state is the lowest state that is never told apart from it.
+#![tactic(auto)]
+
 ghost use Rattle.std.specs.Prelude.{◌≡◌, ◌++◌, ◌≤◌, length, drop};
 ghost use Rattle.theory.specs.Below.{values};
 ghost use Rattle.theory.specs.Answer.{asks, written};

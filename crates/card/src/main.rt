@@ -1,5 +1,7 @@
 // The cards of a collection's rules, for a person. Reads the collection from standard input; arguments name the rules,
 // and with none all are shown.
+#![tactic(auto)]
+
 mod chosen;
 mod page;
 mod words;

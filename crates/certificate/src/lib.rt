@@ -1,4 +1,6 @@
 // Checking a certificate: the proof of immunity that comes with a table, a block number for every state.
+#![tactic(auto)]
+
 ghost use Rattle.std.specs.Prelude.{◌≡◌, List, [], ◌∷◌, ℕ, ◌≤◌, ◌<◌, length};
 ghost use Rattle.theory.specs.Below.{first};
 ghost use Rattle.theory.specs.Lists.{any_in};

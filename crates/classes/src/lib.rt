@@ -1,4 +1,6 @@
 // The class of every state of a monitor, its monitorability, and the number of states reached.
+#![tactic(auto)]
+
 ghost use Rattle.std.specs.Prelude.{◌≡◌, ◌++◌, ◌≤◌, ◌<◌, length, drop};
 ghost use Rattle.theory.specs.Below.{values};
 ghost use Rattle.theory.specs.Automaton.{leads};

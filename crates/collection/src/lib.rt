@@ -1,4 +1,6 @@
 // A collection of bodies: judging its contents, an entry's rule number and body, and the entry of a rule number.
+#![tactic(auto)]
+
 ghost use Rattle.std.specs.Prelude.{◌≡◌, ◌<◌};
 ghost use Rattle.theory.specs.Answer.{Answer};
 ghost use Rattle.collection.specs.Contents.{number_at, entry_of, offset_of, length_of, rule_of, body_of, start_of_body};

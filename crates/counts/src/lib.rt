@@ -1,4 +1,6 @@
 // After how many symbols the verdict falls in the two traces of a witness.
+#![tactic(auto)]
+
 ghost use Rattle.std.specs.Prelude.{◌≡◌, length};
 ghost use Rattle.theory.specs.Count.{verdict_count};
 ghost use Rattle.monitor.specs.Opening.{monitor_in, TableIn};

@@ -1,1 +1,2 @@
 // The three demands of the mission: definitions and a theorem for each, and no code.
+#![tactic(auto)]

@@ -1,4 +1,6 @@
 // The edges of judging, classes, steps and traces, one line each. The stored output has what they must be.
+#![tactic(auto)]
+
 ghost use Rattle.std.specs.Prelude.{◌≡◌, length};
 
 use output::{Output, Program};

@@ -1,4 +1,6 @@
 // The fault question: immune, or vulnerable with the first witness; and the card of a table.
+#![tactic(auto)]
+
 ghost use Rattle.std.specs.Prelude.{◌≡◌, [], ◌∷◌, ◌≤◌, ◌<◌, length};
 ghost use Rattle.theory.specs.Lists.{each};
 ghost use Rattle.theory.specs.Answer.{answered, written};

@@ -1,4 +1,6 @@
 // Standard input, which the programs for users read as a whole, and files that arguments name.
+#![tactic(auto)]
+
 ghost use Rattle.std.specs.Prelude.{◌≤◌, length};
 
 use basics::Refusal;

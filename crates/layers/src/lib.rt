@@ -1,4 +1,6 @@
 // States by layers: breadth first from the start, the nearest first.
+#![tactic(auto)]
+
 ghost use Rattle.std.specs.Prelude.{ℕ, ◌+◌, ◌<◌, get_or};
 ghost use Rattle.theory.specs.Monitor.{state_limit};
 ghost use Rattle.monitor.specs.Format.{Rows, graph};

@@ -1,4 +1,6 @@
 // One line of the listing: from a rule number and a body to the bytes of a line in the area lent.
+#![tactic(auto)]
+
 ghost use Rattle.std.specs.Prelude.{◌≡◌, [], ◌++◌, ◌+◌, ◌*◌, ◌≤◌, length};
 ghost use Rattle.theory.specs.Answer.{written};
 ghost use Rattle.theory.specs.Monitor.{state_limit};

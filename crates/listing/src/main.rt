@@ -1,4 +1,6 @@
 // Reads a collection from standard input and prints the listing: a header and a line for each entry.
+#![tactic(auto)]
+
 use basics::Writing;
 use input::Filled;
 use output::{Output, Program};

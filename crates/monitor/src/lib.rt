@@ -1,4 +1,6 @@
 // The byte format of monitors: judging a body, and reading a successor.
+#![tactic(auto)]
+
 ghost use Rattle.std.specs.Prelude.{◌≡◌, ◌*◌, ◌<◌, length};
 ghost use Rattle.theory.specs.Below.{any, first};
 ghost use Rattle.theory.specs.Monitor.{state_limit};

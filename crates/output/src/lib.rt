@@ -1,4 +1,6 @@
 // Standard output of the programs, and the lines that they write to standard error.
+#![tactic(auto)]
+
 ghost use Rattle.std.specs.Prelude.{◌≡◌, false, pos};
 
 // Who writes: a program for users, or one for the tests. The name begins the line that tells a failure.

@@ -1,5 +1,7 @@
 // Packs bodies into a collection: arguments are rule numbers, each with the file of its body behind it. The collection
 // goes to standard output.
+#![tactic(auto)]
+
 mod words;
 
 ghost use Rattle.std.specs.Prelude.{◌≡◌, ◌≤◌, length};

@@ -1,5 +1,7 @@
 // The search, which enters the distance of every two states in the square lent: by blocks where it can, else by a pass
 // over the pairs, and from pair to pair round by round.
+#![tactic(auto)]
+
 ghost use Rattle.std.specs.Prelude.{◌≡◌, ◌*◌, ◌≤◌, length};
 ghost use Rattle.theory.specs.Monitor.{state_limit, symbol_limit};
 ghost use Rattle.monitor.specs.Format.{Rows, graph};

@@ -1,5 +1,7 @@
 // A partition of the states into blocks, in an array of numbers and an array of sets: block c is set c. The square says
 // "not told apart" of two states of one block; where a block is split, it is given the distance of those that part.
+#![tactic(auto)]
+
 ghost use Rattle.std.specs.Prelude.{◌≡◌, true, ℕ, ◌*◌, ◌≤◌, ◌<◌, eqb, length};
 ghost use Rattle.theory.specs.Monitor.{state_limit};
 ghost use Rattle.state_set.specs.Member.{in_part, member};

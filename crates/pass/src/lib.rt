@@ -2,6 +2,8 @@
 // are told apart before any symbol.
 //
 // A pass visits all pairs. The rounds are no passes: they take rows and states from sets, and number no pair.
+#![tactic(auto)]
+
 ghost use Rattle.std.specs.Prelude.{◌≡◌, false, ℕ, ◌+◌, ◌*◌, ◌≤◌, ◌<◌, ltb, length};
 ghost use Rattle.theory.specs.Monitor.{state_limit};
 ghost use Rattle.state_set.specs.Member.{member};

@@ -1,5 +1,7 @@
 // The words of answers and refusals. Each function but `has_reason` writes to the output and hands it back. No contract
 // can say what is written; the output of programs is compared with a stored one.
+#![tactic(auto)]
+
 ghost use Rattle.std.specs.Prelude.{◌≡◌, ◌&&◌, leb};
 
 use basics::{Refusal, Writing};

@@ -2,6 +2,8 @@
 // A question is a frame: the length of what follows in two bytes, least byte first; the call; three numbers, a byte
 // each; and the call's bytes.
 // The working areas of the searches are made once and lent to one question after the other.
+#![tactic(auto)]
+
 ghost use Rattle.std.specs.Prelude.{◌+◌, ◌≤◌, ◌<◌, length};
 
 use basics::Writing;

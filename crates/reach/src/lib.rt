@@ -1,4 +1,6 @@
 // Which states can be reached from a state, and from which states a set can be reached.
+#![tactic(auto)]
+
 ghost use Rattle.std.specs.Prelude.{◌≡◌, ℕ, ◌*◌, ◌≤◌, ◌<◌, length};
 ghost use Rattle.theory.specs.Below.{any};
 ghost use Rattle.theory.specs.Automaton.{reached_from};

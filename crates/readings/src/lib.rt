@@ -1,4 +1,6 @@
 // What a monitor reads: after one step from a state, and after a trace from its start.
+#![tactic(auto)]
+
 ghost use Rattle.std.specs.Prelude.{◌≡◌, ◌||◌, cond, ◌++◌, ◌≤◌, ◌<◌, eqb, length, get_or, drop};
 ghost use Rattle.theory.specs.Below.{values};
 ghost use Rattle.theory.specs.Answer.{asks};

@@ -1,5 +1,7 @@
 // The search by blocks, for states that differ in their outputs: states that are not told apart are in one block, and a
 // round splits the blocks by the new blocks of the round before, symbol by symbol.
+#![tactic(auto)]
+
 ghost use Rattle.std.specs.Prelude.{◌≡◌, Bool, true, ℕ, suc, ◌+◌, ◌*◌, ◌≤◌, ◌<◌, ltb, length, get_or};
 ghost use Rattle.theory.specs.Automaton.{Automaton, Closed};
 ghost use Rattle.theory.specs.Monitor.{state_limit, symbol_limit};

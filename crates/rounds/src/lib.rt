@@ -2,6 +2,8 @@
 //
 // A round goes by blocks of the square: rows of part v and columns of part w, a word for each row. A table of up to 64
 // states is one block: of its predecessors, alike and next states only the lower words are looked at.
+#![tactic(auto)]
+
 ghost use Rattle.std.specs.Prelude.{◌≡◌, Bool, ℕ, suc, ◌+◌, ◌*◌, ◌≤◌, ◌<◌, ltb, length};
 ghost use Rattle.theory.specs.Automaton.{Automaton};
 ghost use Rattle.theory.specs.Monitor.{symbol_limit};

@@ -1,5 +1,7 @@
 // What a round of the search by pairs adds to the rows of the square, with the sets of states beside them: the
 // predecessors of the states, what leads into a front, and the pairs that are new in a row.
+#![tactic(auto)]
+
 ghost use Rattle.std.specs.Prelude.{◌≡◌, Bool, true, List, ℕ, ◌+◌, ◌*◌, ◌≤◌, ◌<◌, ltb, length};
 ghost use Rattle.theory.specs.Automaton.{Automaton, Closed};
 ghost use Rattle.theory.specs.Monitor.{state_limit, symbol_limit};

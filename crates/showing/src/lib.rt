@@ -1,4 +1,6 @@
 // The card of one rule: its monitorability, its states by class and those settled, and what each fault does to it.
+#![tactic(auto)]
+
 mod words;
 
 use classes::Classification;

@@ -1,6 +1,8 @@
 // The square of pair distances: for every two states, the one after the sent trace first, the fewest symbols after
 // which their outputs pass a test. How it is filled and read, and the first of the shortest traces that tell two states
 // apart.
+#![tactic(auto)]
+
 ghost use Rattle.std.specs.Prelude.{◌≡◌, ◌+◌, ◌≤◌, ◌<◌, length};
 ghost use Rattle.std.proofs.lemmas.List.Edits.{sets};
 ghost use Rattle.theory.specs.Automaton.{run};

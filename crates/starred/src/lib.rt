@@ -1,1 +1,2 @@
 // The starred facts of the specification: definitions and a theorem, and no code.
+#![tactic(auto)]

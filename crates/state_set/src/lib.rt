@@ -1,4 +1,6 @@
 // Sets of states, each two 64-bit words: the states below 64 in the lower word, the others in the upper one.
+#![tactic(auto)]
+
 ghost use Rattle.std.specs.Prelude.{◌≡◌, true, false, not, ◌&&◌, ◌||◌, ℕ, ◌+◌, ◌*◌, ◌<◌, eqb, ltb, length};
 ghost use Rattle.theory.specs.Below.{count, first};
 ghost use Rattle.theory.specs.Monitor.{state_limit};

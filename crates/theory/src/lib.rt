@@ -1,4 +1,5 @@
 // The theory has definitions and laws, and three numbers that code needs as well.
+#![tactic(auto)]
 
 // The greatest number of states and of symbols: `state_limit` and `symbol_limit` in specs/Monitor.antt.
 pub const STATE_LIMIT: usize = 128;

@@ -1,5 +1,7 @@
 // The least total of a fault set: the depth of a state and what the cheapest fault costs there. And the symbols that
 // lead to the fault which makes it.
+#![tactic(auto)]
+
 ghost use Rattle.std.specs.Prelude.{◌≡◌, true, false, ◌+◌, ◌≤◌, ◌<◌, length, get_or};
 ghost use Rattle.std.proofs.lemmas.List.Edits.{sets};
 ghost use Rattle.theory.specs.Automaton.{run};

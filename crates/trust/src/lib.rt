@@ -1,4 +1,6 @@
 // Which verdicts can be believed when they are received: yes, or the first witness against one.
+#![tactic(auto)]
+
 ghost use Rattle.std.specs.Prelude.{◌≡◌, length};
 ghost use Rattle.theory.specs.Answer.{written};
 ghost use Rattle.theory.specs.Monitor.{state_limit};

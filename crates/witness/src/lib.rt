@@ -1,4 +1,6 @@
 // The first witness of a fault set: the first series with one fault whose readings pass a test.
+#![tactic(auto)]
+
 ghost use Rattle.std.specs.Prelude.{◌≡◌, ◌<◌, length, get_or};
 ghost use Rattle.std.proofs.Math.Option.{some};
 ghost use Rattle.theory.specs.Answer.{asks, refused, written};

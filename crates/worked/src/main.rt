@@ -1,4 +1,6 @@
 // Worked examples of the fault question and the card, one line each. The stored output has what they must be.
+#![tactic(auto)]
+
 use basics::Writing;
 use faults::{FaultSet, Kind};
 use output::{Output, Program};

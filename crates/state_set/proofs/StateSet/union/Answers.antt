@@ -3,14 +3,10 @@ use mathlib.Core.Bool.{◌||◌}
 use Rattle.state_set.specs.Member.{in_word, member}
 use Rattle.theory.proofs.Bits.{bit_or_lem}
 use Rattle.state_set.proofs.Words.{words_by}
-use Rattle.state_set.proofs.StateSet.union.Statement.{statement}
-use Rattle.state_set.proofs.StateSet.union.Tie as tie
+use Rattle.state_set.proofs.StateSet.union.Goals as goal
 
-returns : tie.Need-returns
+pub returns : goal.returns
 unfolding member in_word
 returns c =
-    let a = c.before.before.before.before.args in
+    let a = c.args in
     words_by (λ x y. x || y) a.self.low a.other.low a.self.high a.other.high _ _ (bit_or_lem _ _) (bit_or_lem _ _)
-
-pub union_spec : {M : Type 1} → statement M
-union_spec = tie.close (tie.spec returns)

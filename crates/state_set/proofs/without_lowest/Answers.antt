@@ -2,13 +2,8 @@
 use Prim.Native.Nat.{◌-◌}
 use native.Mathlib.Omega.{arith}
 use lib.Bits.{and_le_r}
-use borrow.Author.Rules.{rules}
 use Rattle.state_set.proofs.Words.{lowest_taken}
-use Rattle.state_set.proofs.without_lowest.Statement.{statement}
-use Rattle.state_set.proofs.without_lowest.Tie as tie
+use Rattle.state_set.proofs.without_lowest.Goals as goal
 
-returns : tie.Need-returns
+pub returns : goal.returns
 returns c = (λ w q. lowest_taken w c.args.word q (omega arith) c.requires, omega (arith, and_le_r c.args.word (c.args.word - 1), c.requires))
-
-pub without_lowest_spec : {M : Type 1} → statement M
-without_lowest_spec = tie.close (tie.spec (λ c. search rules) returns)
