@@ -19,7 +19,7 @@ pub enum Judgement {
 }
 
 // The sizes of a table, and its start.
-#[derive(Drop)]
+#[derive(Clone, Copy)]
 pub struct Shape {
     pub states: usize,
     pub symbols: usize,

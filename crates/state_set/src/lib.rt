@@ -13,7 +13,7 @@ pub const WORDS: usize = 2;
 
 pub const WORD: usize = 64;
 
-#[derive(Drop)]
+#[derive(Clone, Copy)]
 pub struct StateSet {
     low: u64,
     high: u64,
