@@ -2,11 +2,7 @@
 use Prim.Native.Nat.{ℕ}
 use lib.ListN.{length-replicate, get_or-replicate}
 use Rattle.theory.specs.Monitor.{state_limit}
-use Rattle.layers.proofs.blank.Statement.{statement}
-use Rattle.layers.proofs.blank.Tie as tie
+use Rattle.layers.proofs.blank.Goals as goal
 
-returns : tie.Need-returns
+pub returns : goal.returns
 returns c = record { size = length-replicate {A = ℕ} state_limit state_limit; filled = λ q l. get_or-replicate {A = ℕ} state_limit q state_limit 0 l }
-
-pub blank_spec : {M : Type 1} → statement M
-blank_spec = tie.close (tie.spec returns)
