@@ -1,7 +1,7 @@
 // What all layers use and none of them is about: a refusal, a length written, and bytes and parts of a slice.
 #![tactic(auto)]
 
-ghost use Rattle.std.specs.Prelude.{◌≡◌, ◌<◌, min, get_or, take, drop};
+ghost use Rattle.std.specs.Prelude.{◌≡◌, ◌<◌, ◌≤◌, ◌++◌, length, min, get_or, take, drop};
 
 // The number of the question that was answered no, and its place.
 #[derive(Clone, Copy)]
@@ -42,4 +42,12 @@ pub fn part(bytes: &[u8], from: usize, count: usize) -> &[u8]
     let start = least_of(from, bytes.len());
     let size = least_of(count, bytes.len() - start);
     &bytes[start..start + size]
+}
+
+// Writes the bytes into the first places of an area that has room for them; the bytes behind keep their contents.
+pub fn copy(bytes: &[u8], area: &mut [u8])
+    requires { length bytes.now ≤ length area.old }
+    ensures { area.new ≡ bytes.now ++ drop (length bytes.now) area.old }
+{
+    area[..bytes.len()].copy_from_slice(bytes);
 }

@@ -199,7 +199,7 @@ pub fn write_line_in(
             place: 0,
         });
     }
-    bytes::copy(&buffer[..length], area);
+    basics::copy(&buffer[..length], area);
     Writing::Written { length }
 }
 

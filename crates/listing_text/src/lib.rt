@@ -151,6 +151,6 @@ pub fn write(file: &[u8], area: &mut [u8]) -> Writing
             place: 0,
         });
     }
-    bytes::copy(&buffer[..length], area);
+    basics::copy(&buffer[..length], area);
     Writing::Written { length }
 }

@@ -83,7 +83,7 @@ fn settle(drawn: &[u8], nexts: &[u8], t: Shape, area: &mut [u8])
         ≡ settled_marks t.states t.symbols drawn.now nexts.now
         ++ drop t.states area.old }
 {
-    bytes::copy(drawn, area);
+    basics::copy(drawn, area);
     let mut q = 0;
     while q < t.states {
         let mark = new_mark(area, nexts, t.states, t.symbols, q);

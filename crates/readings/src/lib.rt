@@ -92,7 +92,7 @@ pub fn write_readings(marks: &[u8], nexts: &[u8], t: Shape, domain: usize, area:
         ++ drop t.states area.old }
 {
     if domain == 3 {
-        bytes::copy(marks, area);
+        basics::copy(marks, area);
         return;
     }
     if domain == 6 {
@@ -101,7 +101,7 @@ pub fn write_readings(marks: &[u8], nexts: &[u8], t: Shape, domain: usize, area:
     }
     let n = t.states;
     let none = [0u8; STATE_LIMIT];
-    bytes::copy(&none[..n], area);
+    basics::copy(&none[..n], area);
 }
 
 // Reads the symbols from a state on, up to the first verdict. A verdict is kept: the symbols behind it change nothing.

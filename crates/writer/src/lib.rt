@@ -158,7 +158,7 @@ fn put_file(rules: &[u16], lengths: &[u16], bodies: &[u8], area: &mut [u8])
     put_number(count, 2, area, 0);
     put_entries(rules, lengths, area);
     let from = 2 + 8 * count;
-    bytes::copy(bodies, &mut area[from..]);
+    basics::copy(bodies, &mut area[from..]);
 }
 
 // Writes the collection of these rule numbers and bodies into the area. `lengths` says where the bodies are cut.
