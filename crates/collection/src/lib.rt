@@ -27,7 +27,7 @@ pub enum Lookup {
 }
 
 // What an entry is asked: its rule number is greater than the one before, or its body starts where it has to.
-#[derive(Drop)]
+#[derive(Clone, Copy)]
 enum Test {
     RulesRise,
     BodiesFollow,
