@@ -7,8 +7,8 @@ use Prim.Native.Nat.{ℕ, zero, suc, ◌+◌, ◌-◌, ◌*◌, ◌≤◌, ◌<�
 use native.Mathlib.Nat.{le_refl}
 use native.Mathlib.Omega.{arith}
 use lib.Dec.{eqb}
-use lib.ListN.{length, get_or, take, drop, set, length-set, take-append-drop}
-use lib.Seq.{drop_at, drop-set-lt, get_or-set_same, get_or-set_other}
+use lib.ListN.{length, take, drop, set, length-set, take-append-drop}
+use lib.Seq.{take-length, drop_at, drop-set-lt, get_or-set_same, get_or-set_other}
 use borrow.Author.Tests.{eqb-true, eq-eqb, ne_eqb}
 use Rattle.theory.specs.Below.{every, count, values}
 use Rattle.theory.specs.Automaton.{Automaton, inevitable_within, inevitable}
@@ -161,10 +161,10 @@ ahead n area q = (n - marks_in n area) * 129 + (n - q)
 
 -- the marks drawn were copied into the area
 module _ {n k s : ℕ} {vs ts copied : List ℕ} (t : Table state_limit n k s vs ts) (area : List ℕ) (room : n ≤ length area)
-    (e : copied ≡ take (length vs) vs ++ drop (length vs) area) where
+    (e : copied ≡ vs ++ drop (length vs) area) where
   is_filled : copied ≡ filled (mark_in vs) area n
   is_filled =
-      e ∙ ap (λ (front : List ℕ). front ++ drop (length vs) area) (sym (values_front vs (length vs) (le_refl (length vs))))
+      e ∙ ap (λ (front : List ℕ). front ++ drop (length vs) area) (sym (values_front vs (length vs) (le_refl (length vs)) ∙ take-length vs))
       ∙ ap (filled (mark_in vs) area) t.marks_length
 
   pub copied_size : length copied ≡ length area
