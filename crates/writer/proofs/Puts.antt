@@ -6,7 +6,7 @@ use native.Mathlib.Nat.{add-zero, le_of_eq}
 use native.Mathlib.Numerals.{add-one}
 use native.Mathlib.Omega.{arith}
 use lib.ListN.{length, get_or, take, drop, set, length-set, length-append, length-drop, drop_of_length-le}
-use lib.Seq.{sets, length-sets, sets-eq, take_at, drop_at, drop-drop, take-length, take_all}
+use lib.Seq.{sets, length-sets, sets-eq, take_at, drop_at, drop-drop, take_all}
 use Rattle.theory.specs.Lists.{each}
 use Rattle.writer.specs.Encoding.{bytes_of, entry_bytes}
 use Rattle.writer.specs.Writing.{file_of, Fits, entry_given}
@@ -117,7 +117,7 @@ module _ {rules lengths bodies : List ℕ} (f : Fits rules lengths bodies) (l₀
   -- the bodies are copied into all that stands behind the contents
   pub file_put : {out : List ℕ}
       → (let m = 2 + 8 * length rules in let k = length l₂ - m in
-      out ≡ take (length bodies) bodies ++ drop (length bodies) (take k (drop m l₂))
+      out ≡ bodies ++ drop (length bodies) (take k (drop m l₂))
       → take m l₂ ++ (out ++ drop k (drop m l₂)) ≡ file_of rules lengths bodies ++ drop (length (file_of rules lengths bodies)) l₀)
   file_put {out} h =
       let m = 2 + 8 * length rules in
@@ -129,7 +129,7 @@ module _ {rules lengths bodies : List ℕ} (f : Fits rules lengths bodies) (l₀
       ap (drop (length bodies)) (take_all k (drop m l₂) long ∙ back)
       ∙ drop-drop (length bodies) m l₀
       ∙ ap (λ (n : ℕ). drop n l₀) (sym (file_long f)) in
-      let copied = h ∙ ap₂ (λ (x y : List ℕ). x ++ y) (take-length bodies) rest in
+      let copied = h ∙ ap (λ (y : List ℕ). bodies ++ y) rest in
       ap₂ (λ (x y : List ℕ). x ++ (out ++ y)) front (drop_of_length-le (drop m l₂) long)
       ∙ ap (λ (l : List ℕ). contents ++ l) (append-nil out ∙ copied)
       ∙ sym (append_assoc contents bodies (drop (length (file_of rules lengths bodies)) l₀))
