@@ -19,7 +19,7 @@ ghost use Rattle.faults.specs.Rest.{steps_onward, Placed, step_at, rest};
 use square::{NEVER, Test};
 
 // A kind of fault.
-#[derive(Drop)]
+#[derive(Clone, Copy)]
 pub enum Kind {
     Loss,
     Corruption,
@@ -53,7 +53,7 @@ fn has_bit(number: usize, rank: usize) -> bool
 }
 
 // A set of faults: the sum of their bits. It is built by adding kinds, so that it has no other bit.
-#[derive(Drop)]
+#[derive(Clone, Copy)]
 pub struct FaultSet {
     bits: usize,
 }
@@ -127,7 +127,7 @@ impl FaultSet {
 }
 
 // At most two symbols, one after the other. What stands behind the count is not looked at.
-#[derive(Drop)]
+#[derive(Clone, Copy)]
 pub struct Symbols {
     pub count: usize,
     pub first: usize,
@@ -148,7 +148,7 @@ impl Symbols {
 
 // A fault step: its kind, the symbols it covers, the symbols delivered in their place, and the replacement (0 except
 // for corruption).
-#[derive(Drop)]
+#[derive(Clone, Copy)]
 pub struct Fault {
     pub kind: Kind,
     pub sent: Symbols,
@@ -204,7 +204,7 @@ pub fn fault_of(kind: Kind, a: usize, b: usize) -> Fault
 
 // A place among the fault steps of a set, in the written order: the rank of the kind, the first symbol, and the
 // replacement or neighbour. Behind the last step the rank is KINDS.
-#[derive(Drop)]
+#[derive(Clone, Copy)]
 pub struct Cursor {
     rank: usize,
     first: usize,

@@ -19,7 +19,7 @@ pub const NEVER: usize = 65535;
 const NEVER_ENTRY: u16 = NEVER as u16;
 
 // What tells two states apart, by the outputs after the sent and after the received trace.
-#[derive(Drop)]
+#[derive(Clone, Copy)]
 pub enum Test {
     // They differ.
     Differ,
