@@ -30,7 +30,7 @@ pub room_same : {n k : ℕ} {sets square₀ alike₀ next₀ active₀ square al
 room_same R S e = record {
   small = R.small;
   rows = rw S.square_same R.rows;
-  alike_sets = rw S.Alike-same R.alike_sets;
+  alike_sets = rw S.alike_same R.alike_sets;
   next_sets = rw S.other_same R.next_sets;
   active_sets = rw e R.active_sets;
   predecessors_sets = R.predecessors_sets;
