@@ -30,7 +30,7 @@ pub enum Classification {
 }
 
 // The states from which true can be reached, and those from which false can.
-#[derive(Drop)]
+#[derive(Clone, Copy)]
 struct Outlook {
     truth: StateSet,
     falsity: StateSet,
