@@ -8,8 +8,7 @@ use Rattle.rows.proofs.enter_predecessor.Goals as goal
 
 pub loop-a-preserved : goal.loop-a-preserved
 loop-a-preserved c =
-    let c₁₀ = c in
-    let p = c₁₀.before.before.requires in
+    let p = c.requires in
     let at = c.loop-a in
     let x = c.successor in
     let put = c.write.ensures in (
