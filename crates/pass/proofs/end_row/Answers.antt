@@ -1,0 +1,20 @@
+-- `end_row` meets its contract.
+use mathlib.Core.Path.{◌∙◌}
+use Rattle.theory.specs.Monitor.{state_limit}
+use Rattle.rows.proofs.Visit.{empty_none, empty_some}
+use Rattle.pass.proofs.First.{row_quiet, row_fresh}
+use Rattle.pass.proofs.end_row.Goals as goal
+
+pub returns-then-is_empty : goal.returns-then-is_empty
+returns-then-is_empty c =
+    λ n all.
+    row_quiet n _ c.requires.0 c.read-apart.ensures
+    (λ q. c.without.ensures q ∙ rw (c.minus.ensures q, all q)) c.write.ensures
+    (empty_none state_limit _ c.is_empty.ensures c.if-is_empty.true)
+
+pub returns : goal.returns
+returns c =
+    λ n all.
+    row_fresh n _ c.requires.0 c.read-apart.ensures
+    (λ q. c.without.ensures q ∙ rw (c.minus.ensures q, all q)) c.write.ensures
+    (empty_some state_limit _ c.is_empty.ensures c.if-is_empty.false) c.with.ensures
