@@ -26,7 +26,7 @@ use square::Test;
 use theory::{SQUARE_SIZE, STATE_LIMIT};
 use witness::{Outcome, WITNESS_ROOM, Witness};
 
-#[derive(Drop)]
+#[derive(Clone, Copy)]
 pub enum Finding {
     Refused(Refusal),
     Immune,
@@ -44,7 +44,7 @@ pub enum Summary {
 }
 
 // A column of a card: the finding for one fault alone, by marks.
-#[derive(Drop)]
+#[derive(Clone, Copy)]
 pub struct Column {
     pub finding: Finding,
 }

@@ -25,7 +25,7 @@ pub enum Stepped {
 }
 
 // After how many symbols of a trace the verdict fell.
-#[derive(Drop)]
+#[derive(Clone, Copy)]
 pub enum Count {
     After(usize),
     Never,

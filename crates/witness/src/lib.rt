@@ -26,7 +26,7 @@ use totals::Least;
 
 // A witness whose sent trace stands in the area: its length, the symbols before the fault, the fault's kind, the
 // replacement, what the sent and the received trace read, and after how many symbols of each its verdict falls.
-#[derive(Drop)]
+#[derive(Clone, Copy)]
 pub struct Witness {
     pub distance: usize,
     pub before: usize,
