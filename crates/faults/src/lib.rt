@@ -252,7 +252,7 @@ impl Cursor {
     // At the next fault step of the set.
     pub fn next(self, set: FaultSet, k: usize) -> Self
         requires rank_lt_kinds { self.rank < kinds }
-        requires placed_2 { Placed k self }
+        requires placed_here { Placed k self }
         ensures rest { rest set.bits k self ≡ step_at self ∷ rest set.bits k result }
         ensures placed { Placed k result }
     {
@@ -280,7 +280,7 @@ impl Cursor {
 pub fn after(nexts: &[u8], n: usize, k: usize, p: usize, symbols: Symbols) -> usize
     requires rows { Rows state_limit n k nexts.now }
     requires p_lt_n { p < n }
-    requires inside_2 { Inside k symbols }
+    requires symbols_inside { Inside k symbols }
     ensures run { result ≡ run (graph n k nexts.entry) p (trace_of symbols) }
     ensures inside { result < n }
 {
