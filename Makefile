@@ -5,8 +5,10 @@ SHELL := /bin/bash
 FILE ?= samples/sample.collection
 RULE ?=
 
-# The programs for users, and the folder under which `make install` puts them, in bin.
+# The programs for users, those for the tests, and the folder under which `make install` puts the first, in bin. All are
+# kept in target/bin.
 PROGRAMS := listing card ask pack
+TEST_PROGRAMS := edges worked probe
 PREFIX ?= /usr/local
 BIN = $(DESTDIR)$(PREFIX)/bin
 
@@ -16,48 +18,45 @@ need = missing=; for pair in $(1); do \
 	if [ "$$tool" = rt ]; then echo 'rt is missing: it is the command of the Rattle kit' >&2; \
 	else echo "$$tool is missing: the Debian package $${pair\#\#*:} has it" >&2; fi; done; [ -z "$$missing" ]
 
-# Proves and builds the programs; after the first time only what has changed.
-build = for name in $(PROGRAMS); do [ -x "target/bin/$$name" ] && continue; \
-	echo 'proving and building the programs: some minutes the first time' >&2; break; done; \
-	said=$$(rt check $(PROGRAMS) 2>&1) || { printf '%s\n' "$$said" >&2; exit 1; }
+# What the programs are made from. Only whether a file is newer than a program is asked here; what has to be proved
+# again is for `rt` to say.
+SOURCES := $(wildcard crates.txt $(foreach part,src specs proofs,\
+	$(foreach file,* */* */*/* */*/*/*,crates/*/$(part)/$(file))))
 
-list:
-	@$(call need,rt:)
-	@$(build)
-	@target/bin/listing < '$(FILE)'
+# All four.
+programs: $(PROGRAMS:%=target/bin/%)
+	@:
 
-card:
-	@$(call need,rt:)
-	@$(build)
-	@target/bin/card $(RULE) < '$(FILE)'
+# Proves and builds one program, where a file is newer than it: `rt run` runs what it has built, so it is asked for help.
+# Without `rt`, as it may be in the van or for root, a program that is built serves as it is.
+$(patsubst %,target/bin/%,$(PROGRAMS) $(TEST_PROGRAMS)): target/bin/%: $(SOURCES)
+	@if command -v rt > /dev/null; then \
+	[ -x '$@' ] || echo 'proving and building $*: some minutes the first time' >&2; \
+	said=$$(cd 'crates/$*' && rt run -- --help 2>&1 < /dev/null) || { printf '%s\n' "$$said" >&2; exit 1; }; \
+	mkdir -p target/bin && cp -f 'crates/$*/out/$*' '$@'; \
+	else [ -x '$@' ] || $(call need,rt:); fi
 
-# The layout of all files; the gate, from nothing; then the tests on the programs that the gate built. The gate's
-# closing line comes last.
+list: target/bin/listing
+	@$< < '$(FILE)'
+
+card: target/bin/card
+	@$< $(RULE) < '$(FILE)'
+
+# The gate, over every crate and each of its edits, and then the tests on the programs that it built, two at a time. The
+# gate passes over an edit that no longer fits its file or does not compile; here that is a failure. The gate's closing
+# line comes last.
 test:
 	@$(call need,rt: python3:python3 valgrind:valgrind)
-	@rt fmt --check
 	@set -euo pipefail; log=$$(mktemp); trap 'rm -f "$$log"' EXIT; \
 	rt ci 2>&1 | tee "$$log"; \
-	python3 samples/make.py --check; \
-	python3 tests/divisions.py; \
-	python3 tests/readme.py "$$(tail -n 1 "$$log")"; \
-	python3 tests/setup.py; \
-	python3 tests/compare.py; \
-	python3 tests/brute.py | diff tests/brute.expected -; cat tests/brute.expected; \
-	python3 -B tests/settled.py; \
-	python3 -B tests/proofs.py; \
-	python3 -B tests/limits.py; \
-	python3 -B tests/check_reference.py; \
-	python3 -B tests/hostile.py; \
-	python3 -B tests/published.py; \
-	python3 -B tests/failures.py; \
-	python3 -B tests/memory.py; \
+	ok=$$(grep '^rt: ok' "$$log") || { echo 'the gate: no line says that all is well' >&2; exit 1; }; \
+	! grep -E ', [1-9][0-9]* bad' <<< "$$ok" >&2 || { echo 'the gate: must-fail edits are bad' >&2; exit 1; }; \
+	mkdir -p target/bin; \
+	for name in $(PROGRAMS) $(TEST_PROGRAMS); do cp -f "crates/$$name/out/$$name" target/bin/; done; \
+	python3 tests/all.py "$$(tail -n 1 "$$log")"; \
 	tail -n 1 "$$log"
 
-# Without `rt`, as it may be for root, the programs that are built are copied as they are.
-install:
-	@for name in $(PROGRAMS); do [ -x "target/bin/$$name" ] || { $(call need,rt:) || exit 1; }; done; \
-	! command -v rt > /dev/null || { $(build); }
+install: $(PROGRAMS:%=target/bin/%)
 	@mkdir -p '$(BIN)'
 	@cp $(PROGRAMS:%=target/bin/%) '$(BIN)'
 
@@ -69,4 +68,4 @@ bench:
 	@$(call need,rt: python3:python3 valgrind:valgrind gcc:gcc)
 	@bench/run
 
-.PHONY: list card test install uninstall bench
+.PHONY: programs list card test install uninstall bench

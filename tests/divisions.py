@@ -15,19 +15,37 @@ WANTED = {
     "crates/writer/src/lib.rt": ["% 256", "/ 256"],
 }
 
-# What is no code, or code that is never run: comments, texts and single characters, contracts.
-NO_CODE = re.compile(r"//[^\n]*|b?\"(?:\\.|[^\"\\])*\"|b?'(?:\\.|[^'\\])'|⌜.*?⌝", re.S)
+# What is no code, or code that is never run: comments, texts and single characters, and contracts, from their word to the
+# end of their braces.
+NO_CODE = re.compile(r"//[^\n]*|b?\"(?:\\.|[^\"\\])*\"|b?'(?:\\.|[^'\\])'", re.S)
+CONTRACT = re.compile(r"\b(?:requires|ensures|ghost)\b[^{};]*[{;]")
 # An operator with what follows it, a mask that is a number or a constant, a call of a function that divides.
 DIVISION = re.compile(r"(/|%|>>)=?[\s(]*([^\s(),;]*)|(?<!&)(&)=?[\s(]*([0-9]\w*|[A-Z][A-Z_]+\b)|(?:\.|::)(\w*(?:div|rem_|multiple_of)\w*)\b")
 
 
+def without_contracts(code):
+    """The text with each contract and each ghost item left out; a brace in one ends it only with all that it opens."""
+    kept, at = [], 0
+    while match := CONTRACT.search(code, at):
+        kept.append(code[at:match.start()])
+        at, depth = match.end(), match.group().count("{")
+        while depth and at < len(code):
+            depth += {"{": 1, "}": -1}.get(code[at], 0)
+            at += 1
+    return " ".join([*kept, code[at:]])
+
+
 def divisions(code):
     """What is found in a text, in order."""
-    return [" ".join(filter(None, parts)) for parts in DIVISION.findall(NO_CODE.sub(" ", code))]
+    return [" ".join(filter(None, parts)) for parts in DIVISION.findall(without_contracts(NO_CODE.sub(" ", code)))]
 
 
 def main():
-    tried = 'p = i / n; q %= (\n  LIMIT); // a / b\nr = usize::rem_euclid(i, n); s = i >> 6 & 63; t = i / *n; u(&mut b"/"); ⌜ i / n ⌝'
+    tried = """ghost use a.{◌/◌, ◌%◌};
+fn f(i: usize, n: usize) -> usize
+    requires { 0 < n }
+    ensures whole { OnOk result (λ r. { p = r / n; q = r % n }) }
+{ p = i / n; q %= (\n  LIMIT); // a / b\nr = usize::rem_euclid(i, n); s = i >> 6 & 63; t = i / *n; u(&mut b"/"); }"""
     if (came := divisions(tried)) != ["/ n", "% LIMIT", "rem_euclid", ">> 6", "& 63", "/ *n"]:
         sys.exit(f"divisions: in {tried!r} are found {came}")
     files = sorted(ROOT.glob("crates/*/src/**/*.rt"))
