@@ -1,5 +1,6 @@
-# The commands of the README.
+# The commands of the README. They print the same where another make runs them, as the tests do.
 SHELL := /bin/bash
+MAKEFLAGS += --no-print-directory
 
 # The collection that `make list` and `make card` show, and the rules that `make card` shows (none: all).
 FILE ?= samples/sample.collection
