@@ -35,7 +35,7 @@ $(patsubst %,target/bin/%,$(PROGRAMS) $(TEST_PROGRAMS)): target/bin/%: $(SOURCES
 	[ -x '$@' ] || echo 'proving and building $*: some minutes the first time' >&2; \
 	said=$$(cd 'crates/$*' && rt run -- --help 2>&1 < /dev/null) || { printf '%s\n' "$$said" >&2; exit 1; }; \
 	mkdir -p target/bin && cp -f 'crates/$*/out/$*' '$@'; \
-	else [ -x '$@' ] || $(call need,rt:); fi
+	else [ -x '$@' ] || { $(call need,rt:); }; fi
 
 list: target/bin/listing
 	@$< < '$(FILE)'

@@ -97,8 +97,8 @@ def without(target, absent):
 
 def what_is_built():
     """`make list` asks for the listing alone to be proved and built, `make card` for the card, `make` for all four; where
-    they are built nothing is asked, and where a file that they are made from is newer they are asked for again. `rt` and
-    what it builds only note here that they ran."""
+    they are built nothing is asked, and where a file that they are made from is newer they are asked for again, or serve
+    as they are without `rt`. `rt` and what it builds only note here that they ran."""
     for target, programs in {"list": ["listing"], "card": ["card"], "programs": ["listing", "card", "ask", "pack"]}.items():
         with tempfile.TemporaryDirectory() as folder:
             top = pathlib.Path(folder)
@@ -117,13 +117,17 @@ chmod 755 "out/${{PWD##*/}}"
             (tools / "rt").chmod(0o755)
             tools_in(tools, "make", "bash", "sh", "mkdir", "cp", "chmod")
             wanted = "".join(f"{name}: run -- --help\n" for name in programs)
-            for times, newer in ((1, 0), (1, 0), (2, 60), (2, 0)):
-                if newer:
-                    built = (top / "target/bin" / programs[0]).stat().st_mtime
-                    os.utime(source, (built + newer, built + newer))
+            # The file's time, beside the programs' own from the second turn on, which is 2000.
+            for file_time, times in ((1000, 1), (1000, 1), (3000, 2), (1000, 2)):
+                os.utime(source, (file_time, file_time))
                 make(*[target] if target != "programs" else [], "FILE=/dev/null", path=str(tools), root=folder)
                 check(f"what make {target} asks of rt", asked.read_text(), wanted * times)
-                os.utime(source, (0, 0))
+                for name in programs:
+                    os.utime(top / "target/bin" / name, (2000, 2000))
+            (tools / "rt").unlink()
+            os.utime(source, (3000, 3000))
+            done = make(target, "FILE=/dev/null", path=str(tools), root=folder)
+            check(f"make {target} without rt, with a newer file", (done.returncode, done.stderr), (0, ""))
 
 
 def missing_tools():
