@@ -219,7 +219,8 @@ fn card_of(
 
 // The card of a refused table.
 fn refused_card(r: Refusal) -> LinkCard
-    ensures* { λ c. ⌜ carded c ≡ record { summary = refusal r; columns = each kinds (λ c. refusal r ∷ []) } ⌝ }
+    ensures { carded result
+        ≡ record { summary = refusal r; columns = each kinds (λ c. refusal r ∷ []) } }
 {
     let summary = Summary::Refused(r);
     let columns = [Column {
