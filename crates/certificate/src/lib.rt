@@ -25,7 +25,7 @@ use state_set::StateSet;
 use theory::STATE_LIMIT;
 
 // What states of a block must agree in: what they read, or the blocks to which the symbols lead.
-#[derive(Drop)]
+#[derive(Clone, Copy)]
 enum Agreement {
     Readings,
     Steps,
