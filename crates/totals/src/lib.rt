@@ -28,7 +28,7 @@ pub struct Approach {
 }
 
 // The least total of a fault set, and how many states of the order were looked at.
-#[derive(Drop)]
+#[derive(Clone, Copy)]
 pub struct Least {
     pub total: usize,
     pub visited: usize,
