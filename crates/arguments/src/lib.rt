@@ -1,8 +1,10 @@
 // A program's arguments: decimal numbers of any length, and words.
 #![tactic(auto)]
 
-ghost use Rattle.std.specs.Prelude.{◌≡◌, ◌≤◌};
+ghost use Rattle.std.specs.Prelude.{◌≡◌, ◌≤◌, length};
 ghost use Rattle.arguments.specs.Numbers.{is_digit, decimal_of, two_bytes_of};
+
+use std::env::{Env, FillError};
 
 // A greater number is answered as this one: no answer goes by how far above it a number is. Ten times it and a digit
 // more fit a usize.
@@ -66,29 +68,53 @@ fn read_two_bytes(text: &[u8]) -> TwoBytes
     TwoBytes::Other
 }
 
+// How many arguments the program has. Its name is one of them.
+pub fn count(rt: &impl Env) -> usize {
+    for i in 0..usize::MAX {
+        if let Err(FillError::NotPresent) = rt.arg(i, &mut []) {
+            return i;
+        }
+    }
+    usize::MAX
+}
+
+// Puts the program's argument i first into a space that is lent, and answers its length: 0 for one that is missing, or
+// longer than the space.
+pub fn text_at(rt: &impl Env, i: usize, space: &mut [u8]) -> usize
+    ensures { result ≤ length space.new }
+{
+    rt.arg(i, space).unwrap_or(0)
+}
+
 // The program's argument i, read into a space that is lent, as a number. One that is missing, or longer than the space,
 // is none.
-pub fn number_at(i: usize, space: &mut [u8]) -> Decimal {
-    let length = os::arg(i, space);
+pub fn number_at(rt: &impl Env, i: usize, space: &mut [u8]) -> Decimal {
+    let length = text_at(rt, i, space);
     read_decimal(&space[..length])
 }
 
 // The same as a number of two bytes.
-fn two_bytes_at(i: usize, space: &mut [u8]) -> TwoBytes {
-    let length = os::arg(i, space);
+fn two_bytes_at(rt: &impl Env, i: usize, space: &mut [u8]) -> TwoBytes {
+    let length = text_at(rt, i, space);
     read_two_bytes(&space[..length])
 }
 
 // Fills the list with the arguments from `first` on, each `step` behind the one before. Answers whether all are numbers
 // of two bytes.
-pub fn fill_two_bytes(list: &mut [u16], first: usize, step: usize, space: &mut [u8]) -> bool
+pub fn fill_two_bytes(
+    rt: &impl Env,
+    list: &mut [u16],
+    first: usize,
+    step: usize,
+    space: &mut [u8],
+) -> bool
     requires { (first ≤ 4294967296)
         × (step ≤ 2) }
 {
     let mut at = first;
     let mut i = 0;
     while i < list.len() {
-        let TwoBytes::Number(number) = two_bytes_at(at, space) else {
+        let TwoBytes::Number(number) = two_bytes_at(rt, at, space) else {
             return false;
         };
         list[i] = number;
@@ -99,7 +125,7 @@ pub fn fill_two_bytes(list: &mut [u16], first: usize, step: usize, space: &mut [
 }
 
 // Whether the program's argument i, read likewise, is this word.
-pub fn is_word(i: usize, word: &[u8], space: &mut [u8]) -> bool {
-    let length = os::arg(i, space);
+pub fn is_word(rt: &impl Env, i: usize, word: &[u8], space: &mut [u8]) -> bool {
+    let length = text_at(rt, i, space);
     check::same(&space[..length], word)
 }
