@@ -2,6 +2,7 @@
 ghost use Rattle.std.specs.Prelude.{◌≤◌};
 
 use arguments::Decimal;
+use std::env::Env;
 
 // The byte @, which begins the argument that names a file.
 const FILE_SIGN: usize = 64;
@@ -11,7 +12,7 @@ pub const LISTS: usize = 3;
 
 // What a form is asked of: the body on standard input, the body of a rule of the collection there, or that collection
 // itself, which is only judged.
-#[derive(Drop)]
+#[derive(Clone, Copy)]
 pub enum Subject {
     Body,
     Rule(usize),
@@ -20,14 +21,14 @@ pub enum Subject {
 
 // Where the messages of a trace are, or the blocks of a proof: the last arguments, so many; or the bytes of the file
 // that an argument names.
-#[derive(Drop)]
+#[derive(Clone, Copy)]
 pub enum Source {
     Arguments(usize),
     File { argument: usize },
 }
 
 // A question about a body, with its numbers.
-#[derive(Drop)]
+#[derive(Clone, Copy)]
 pub enum Form {
     Judge,
     Body,
@@ -152,8 +153,8 @@ fn word_of(text: &[u8]) -> Word {
     form_word(text)
 }
 
-fn word_at(i: usize, space: &mut [u8]) -> Word {
-    let length = os::arg(i, space);
+fn word_at(rt: &impl Env, i: usize, space: &mut [u8]) -> Word {
+    let length = arguments::text_at(rt, i, space);
     word_of(&space[..length])
 }
 
@@ -167,11 +168,11 @@ fn judge_asked(subject: Subject, behind: usize) -> Asked {
 
 // The number of a question that has one. Here and below, numbers are the arguments from `at` on, and `behind` is how
 // many arguments stand there.
-fn only_number(at: usize, behind: usize, space: &mut [u8]) -> Decimal {
+fn only_number(rt: &impl Env, at: usize, behind: usize, space: &mut [u8]) -> Decimal {
     if behind != 1 {
         return Decimal::NotANumber;
     }
-    arguments::number_at(at, space)
+    arguments::number_at(rt, at, space)
 }
 
 fn classes_asked(subject: Subject, number: Decimal) -> Asked {
@@ -191,8 +192,8 @@ fn blocks_asked(subject: Subject, number: Decimal) -> Asked {
 }
 
 // Whether an argument is @ and a name behind it.
-fn names_file(at: usize, space: &mut [u8]) -> bool {
-    let length = os::arg(at, space);
+fn names_file(rt: &impl Env, at: usize, space: &mut [u8]) -> bool {
+    let length = arguments::text_at(rt, at, space);
     if length < 2 {
         return false;
     }
@@ -200,11 +201,11 @@ fn names_file(at: usize, space: &mut [u8]) -> bool {
 }
 
 // What so many arguments from `at` on stand for: a file, if there is one argument and it names one.
-fn source_asked(at: usize, count: usize, space: &mut [u8]) -> Source {
+fn source_asked(rt: &impl Env, at: usize, count: usize, space: &mut [u8]) -> Source {
     if count != 1 {
         return Source::Arguments(count);
     }
-    if names_file(at, space) {
+    if names_file(rt, at, space) {
         return Source::File { argument: at };
     }
     Source::Arguments(count)
@@ -217,16 +218,16 @@ enum Sourced {
     Unclear,
 }
 
-fn domain_and_source(at: usize, behind: usize, space: &mut [u8]) -> Sourced
+fn domain_and_source(rt: &impl Env, at: usize, behind: usize, space: &mut [u8]) -> Sourced
     requires { at ≤ 5 }
 {
     if behind == 0 {
         return Sourced::Unclear;
     }
-    let Decimal::Number(domain) = arguments::number_at(at, space) else {
+    let Decimal::Number(domain) = arguments::number_at(rt, at, space) else {
         return Sourced::Unclear;
     };
-    let source = source_asked(at + 1, behind - 1, space);
+    let source = source_asked(rt, at + 1, behind - 1, space);
     Sourced::Domain { domain, source }
 }
 
@@ -238,16 +239,16 @@ fn trace_asked(subject: Subject, given: Sourced) -> Asked {
     Asked::Form { subject, form }
 }
 
-fn proof_asked(subject: Subject, at: usize, behind: usize, space: &mut [u8]) -> Asked
+fn proof_asked(rt: &impl Env, subject: Subject, at: usize, behind: usize, space: &mut [u8]) -> Asked
     requires { at ≤ 4 }
 {
     if behind == 0 {
         return Asked::Unclear;
     }
-    let Decimal::Number(set) = arguments::number_at(at, space) else {
+    let Decimal::Number(set) = arguments::number_at(rt, at, space) else {
         return Asked::Unclear;
     };
-    let Sourced::Domain { domain, source } = domain_and_source(at + 1, behind - 1, space) else {
+    let Sourced::Domain { domain, source } = domain_and_source(rt, at + 1, behind - 1, space) else {
         return Asked::Unclear;
     };
     let form = Form::Proof {
@@ -270,16 +271,16 @@ enum Numbers {
 }
 
 // The three arguments from this one on.
-fn three_numbers(at: usize, space: &mut [u8]) -> Numbers
+fn three_numbers(rt: &impl Env, at: usize, space: &mut [u8]) -> Numbers
     requires { at ≤ 4 }
 {
-    let Decimal::Number(first) = arguments::number_at(at, space) else {
+    let Decimal::Number(first) = arguments::number_at(rt, at, space) else {
         return Numbers::Unclear;
     };
-    let Decimal::Number(second) = arguments::number_at(at + 1, space) else {
+    let Decimal::Number(second) = arguments::number_at(rt, at + 1, space) else {
         return Numbers::Unclear;
     };
-    let Decimal::Number(third) = arguments::number_at(at + 2, space) else {
+    let Decimal::Number(third) = arguments::number_at(rt, at + 2, space) else {
         return Numbers::Unclear;
     };
     Numbers::Three {
@@ -290,13 +291,13 @@ fn three_numbers(at: usize, space: &mut [u8]) -> Numbers
 }
 
 // The same where they are the last.
-fn last_three(at: usize, behind: usize, space: &mut [u8]) -> Numbers
+fn last_three(rt: &impl Env, at: usize, behind: usize, space: &mut [u8]) -> Numbers
     requires { at ≤ 4 }
 {
     if behind != 3 {
         return Numbers::Unclear;
     }
-    three_numbers(at, space)
+    three_numbers(rt, at, space)
 }
 
 fn step_asked(subject: Subject, numbers: Numbers) -> Asked {
@@ -329,7 +330,7 @@ fn fault_asked(subject: Subject, numbers: Numbers) -> Asked {
     Asked::Form { subject, form }
 }
 
-fn trust_asked(subject: Subject, at: usize, behind: usize, space: &mut [u8]) -> Asked
+fn trust_asked(rt: &impl Env, subject: Subject, at: usize, behind: usize, space: &mut [u8]) -> Asked
     requires { at ≤ 4 }
 {
     if behind != 4 {
@@ -339,11 +340,11 @@ fn trust_asked(subject: Subject, at: usize, behind: usize, space: &mut [u8]) -> 
         first: set,
         second: domain,
         third: verdict,
-    } = three_numbers(at, space)
+    } = three_numbers(rt, at, space)
     else {
         return Asked::Unclear;
     };
-    let Decimal::Number(room) = arguments::number_at(at + 3, space) else {
+    let Decimal::Number(room) = arguments::number_at(rt, at + 3, space) else {
         return Asked::Unclear;
     };
     let form = Form::Trust {
@@ -356,32 +357,39 @@ fn trust_asked(subject: Subject, at: usize, behind: usize, space: &mut [u8]) -> 
 }
 
 // The form of this word.
-fn form_asked(word: Word, subject: Subject, at: usize, behind: usize, space: &mut [u8]) -> Asked
+fn form_asked(
+    rt: &impl Env,
+    word: Word,
+    subject: Subject,
+    at: usize,
+    behind: usize,
+    space: &mut [u8],
+) -> Asked
     requires { at ≤ 4 }
 {
     match word {
         Word::Judge => judge_asked(subject, behind),
-        Word::Classes => classes_asked(subject, only_number(at, behind, space)),
-        Word::Step => step_asked(subject, last_three(at, behind, space)),
-        Word::Trace => trace_asked(subject, domain_and_source(at, behind, space)),
-        Word::Fault => fault_asked(subject, last_three(at, behind, space)),
-        Word::Trust => trust_asked(subject, at, behind, space),
-        Word::Proof => proof_asked(subject, at, behind, space),
-        Word::Blocks => blocks_asked(subject, only_number(at, behind, space)),
+        Word::Classes => classes_asked(subject, only_number(rt, at, behind, space)),
+        Word::Step => step_asked(subject, last_three(rt, at, behind, space)),
+        Word::Trace => trace_asked(subject, domain_and_source(rt, at, behind, space)),
+        Word::Fault => fault_asked(subject, last_three(rt, at, behind, space)),
+        Word::Trust => trust_asked(rt, subject, at, behind, space),
+        Word::Proof => proof_asked(rt, subject, at, behind, space),
+        Word::Blocks => blocks_asked(subject, only_number(rt, at, behind, space)),
         _ => Asked::Unclear,
     }
 }
 
 // The form that is asked of a rule: argument 2 is the rule and 3 the form's word.
-fn rule_asked(count: usize, space: &mut [u8]) -> Asked {
+fn rule_asked(rt: &impl Env, count: usize, space: &mut [u8]) -> Asked {
     if count < 4 {
         return Asked::Unclear;
     }
-    let Decimal::Number(rule) = arguments::number_at(2, space) else {
+    let Decimal::Number(rule) = arguments::number_at(rt, 2, space) else {
         return Asked::Unclear;
     };
-    let word = word_at(3, space);
-    form_asked(word, Subject::Rule(rule), 4, count - 4, space)
+    let word = word_at(rt, 3, space);
+    form_asked(rt, word, Subject::Rule(rule), 4, count - 4, space)
 }
 
 // The body itself of a rule.
@@ -395,12 +403,12 @@ fn body_asked(number: Decimal) -> Asked {
 }
 
 // The first argument from LISTS on that is a slash; where none is, the end of the arguments or LISTS.
-fn slash_at(count: usize, space: &mut [u8]) -> usize
+fn slash_at(rt: &impl Env, count: usize, space: &mut [u8]) -> usize
     ensures { 3 ≤ result }
 {
     let mut i = LISTS;
     while i < count {
-        if arguments::is_word(i, b"/", space) {
+        if arguments::is_word(rt, i, b"/", space) {
             return i;
         }
         i += 1;
@@ -409,11 +417,11 @@ fn slash_at(count: usize, space: &mut [u8]) -> usize
 }
 
 // A collection to be written: argument 2 is the room; behind it stand rule numbers, a slash and body lengths.
-fn write_asked(count: usize, space: &mut [u8]) -> Asked {
-    let Decimal::Number(room) = arguments::number_at(2, space) else {
+fn write_asked(rt: &impl Env, count: usize, space: &mut [u8]) -> Asked {
+    let Decimal::Number(room) = arguments::number_at(rt, 2, space) else {
         return Asked::Unclear;
     };
-    let slash = slash_at(count, space);
+    let slash = slash_at(rt, count, space);
     if slash >= count {
         return Asked::Unclear;
     }
@@ -432,19 +440,19 @@ fn why_asked(number: Decimal) -> Asked {
 }
 
 // Reads the arguments, one after the other, into a space that is lent.
-pub fn read(space: &mut [u8]) -> Asked {
-    let count = os::arg_count();
+pub fn read(rt: &impl Env, space: &mut [u8]) -> Asked {
+    let count = arguments::count(rt);
     if count < 2 {
         return Asked::Unclear;
     }
-    let word = word_at(1, space);
+    let word = word_at(rt, 1, space);
     match word {
         Word::Help => Asked::Help,
-        Word::Why => why_asked(only_number(2, count - 2, space)),
-        Word::Rule => rule_asked(count, space),
+        Word::Why => why_asked(only_number(rt, 2, count - 2, space)),
+        Word::Rule => rule_asked(rt, count, space),
         Word::Collection => judge_asked(Subject::Collection, count - 2),
-        Word::Write => write_asked(count, space),
-        Word::Body => body_asked(only_number(2, count - 2, space)),
-        _ => form_asked(word, Subject::Body, 2, count - 2, space),
+        Word::Write => write_asked(rt, count, space),
+        Word::Body => body_asked(only_number(rt, 2, count - 2, space)),
+        _ => form_asked(rt, word, Subject::Body, 2, count - 2, space),
     }
 }

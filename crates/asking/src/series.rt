@@ -4,7 +4,9 @@ ghost use Rattle.std.specs.Prelude.{◌≡◌, min};
 use crate::asked::Source;
 use arguments::Decimal;
 use input::Filled;
-use output::Program;
+use output::{Program, Streams};
+use std::env::Env;
+use std::fs::Files;
 
 // The greatest length of a series: more than Linux hands over as arguments by its default limit of two million bytes.
 const LIMIT: usize = 262144;
@@ -28,15 +30,15 @@ fn byte_of(number: usize) -> u8
 }
 
 // Fills the area with the program's last arguments. Answers whether there are so many and all are numbers.
-fn read_numbers(area: &mut [u8], space: &mut [u8]) -> bool {
-    let count = os::arg_count();
+fn read_numbers(rt: &impl Env, area: &mut [u8], space: &mut [u8]) -> bool {
+    let count = arguments::count(rt);
     if count < area.len() {
         return false;
     }
     let first = count - area.len();
     let mut i = 0;
     while i < area.len() {
-        let Decimal::Number(number) = arguments::number_at(first + i, space) else {
+        let Decimal::Number(number) = arguments::number_at(rt, first + i, space) else {
             return false;
         };
         area[i] = byte_of(number);
@@ -46,25 +48,37 @@ fn read_numbers(area: &mut [u8], space: &mut [u8]) -> bool {
 }
 
 // The last arguments, so many, a number each.
-fn from_arguments(count: usize, area: &mut [u8], space: &mut [u8]) -> Gathered {
+fn from_arguments(
+    rt: &impl Env,
+    streams: Streams,
+    count: usize,
+    area: &mut [u8],
+    space: &mut [u8],
+) -> Gathered {
     if count >= area.len() {
-        output::complaint(Program::Ask, b"more than 262144 numbers");
+        output::complaint(streams, Program::Ask, b"more than 262144 numbers");
         return Gathered::Failed;
     }
-    if read_numbers(&mut area[0..count], space) {
+    if read_numbers(rt, &mut area[0..count], space) {
         return Gathered::Series { length: count };
     }
     Gathered::Unclear
 }
 
 // The bytes of a file. Its name stands in an argument, behind the @.
-fn from_file(argument: usize, area: &mut [u8], space: &mut [u8]) -> Gathered {
-    let end = os::arg(argument, space);
+fn from_file(
+    rt: &(impl Env + Files),
+    streams: Streams,
+    argument: usize,
+    area: &mut [u8],
+    space: &mut [u8],
+) -> Gathered {
+    let end = arguments::text_at(rt, argument, space);
     let name = basics::part(&space[..end], 1, end);
-    match input::read_file(Program::Ask, name, area) {
+    match input::read_file(rt, streams, Program::Ask, name, area) {
         Filled::Whole { length } => Gathered::Series { length },
         Filled::Longer => {
-            output::complaint_of(Program::Ask, name, b"more than 262144 bytes");
+            output::complaint_of(streams, Program::Ask, name, b"more than 262144 bytes");
             Gathered::Failed
         }
         Filled::Failed => Gathered::Failed,
@@ -72,9 +86,15 @@ fn from_file(argument: usize, area: &mut [u8], space: &mut [u8]) -> Gathered {
 }
 
 // Puts the series into the first bytes of an area of ROOM bytes.
-pub fn gather(source: Source, area: &mut [u8], space: &mut [u8]) -> Gathered {
+pub fn gather(
+    rt: &(impl Env + Files),
+    streams: Streams,
+    source: Source,
+    area: &mut [u8],
+    space: &mut [u8],
+) -> Gathered {
     match source {
-        Source::Arguments(count) => from_arguments(count, area, space),
-        Source::File { argument } => from_file(argument, area, space),
+        Source::Arguments(count) => from_arguments(rt, streams, count, area, space),
+        Source::File { argument } => from_file(rt, streams, argument, area, space),
     }
 }

@@ -73,7 +73,12 @@ fn told(streams: Streams, program: Program, name: &[u8], filled: io::Result<Fill
 // first SIZE. Standard error has told a failure.
 pub fn read_first(streams: Streams, program: Program, space: &mut [u8]) -> Filled {
     let mut input = streams.input;
-    told(streams, program, b"standard input", fill(&mut input, space, SIZE))
+    told(
+        streams,
+        program,
+        b"standard input",
+        fill(&mut input, space, SIZE),
+    )
 }
 
 // The same for a program that refuses a longer input itself.
@@ -105,6 +110,12 @@ fn fill_from<R: Files>(rt: &R, name: &[u8], space: &mut [u8]) -> io::Result<Fill
 
 // Reads the file of this name into a space that has a byte more than the file may have. Standard error has told a
 // failure.
-pub fn read_file(rt: &impl Files, streams: Streams, program: Program, name: &[u8], space: &mut [u8]) -> Filled {
+pub fn read_file(
+    rt: &impl Files,
+    streams: Streams,
+    program: Program,
+    name: &[u8],
+    space: &mut [u8],
+) -> Filled {
     told(streams, program, name, fill_from(rt, name, space))
 }
