@@ -11,32 +11,48 @@ use asking::series::Gathered;
 use asking::{asked, lists, series};
 use basics::Writing;
 use input::Input;
-use output::{Output, Program};
+use output::{Output, Program, Streams};
+use std::env::Env;
+use std::fs::Files;
 
 // What is answered where the input is not there whole: that it is too long, or nothing.
-fn answer_unread(read: Input) {
+fn answer_unread(streams: Streams, read: Input) {
     let Input::Refused(r) = read else {
         return;
     };
-    printing::refusal(output::standard(Program::Ask), r).text(b"\n");
+    printing::refusal(output::standard(streams, Program::Ask), r).text(b"\n");
 }
 
 // The answer line. Before all others the program asks whether the input is short enough.
-fn answer(subject: Subject, form: Form, series: &[u8], space: &mut [u8]) {
-    let read = input::read(Program::Ask, space);
+fn answer(streams: Streams, subject: Subject, form: Form, series: &[u8], space: &mut [u8]) {
+    let read = input::read(streams, Program::Ask, space);
     let Input::Whole { length } = read else {
-        answer_unread(read);
+        answer_unread(streams, read);
         return;
     };
-    let out = output::standard(Program::Ask);
+    let out = output::standard(streams, Program::Ask);
     answering::answer(out, subject, form, basics::part(space, 0, length), series).text(b"\n");
 }
 
 // The answer to a form with a trace or a proof, after that is gathered into the area.
-fn answer_series(subject: Subject, form: Form, source: Source, area: &mut [u8], space: &mut [u8]) {
-    match series::gather(source, area, space) {
-        Gathered::Series { length } => answer(subject, form, basics::part(area, 0, length), space),
-        Gathered::Unclear => words::usage(),
+fn answer_series(
+    rt: &(impl Env + Files),
+    streams: Streams,
+    subject: Subject,
+    form: Form,
+    source: Source,
+    area: &mut [u8],
+    space: &mut [u8],
+) {
+    match series::gather(rt, streams, source, area, space) {
+        Gathered::Series { length } => answer(
+            streams,
+            subject,
+            form,
+            basics::part(area, 0, length),
+            space,
+        ),
+        Gathered::Unclear => words::usage(streams),
         Gathered::Failed => {}
     }
 }
@@ -61,19 +77,34 @@ fn write(
 }
 
 // The answer line of a collection to be written, whose bodies are the input.
-fn answer_lists(rules: &[u16], lengths: &[u16], room: usize, area: &mut [u8], space: &mut [u8]) {
-    let read = input::read(Program::Ask, space);
+fn answer_lists(
+    streams: Streams,
+    rules: &[u16],
+    lengths: &[u16],
+    room: usize,
+    area: &mut [u8],
+    space: &mut [u8],
+) {
+    let read = input::read(streams, Program::Ask, space);
     let Input::Whole { length } = read else {
-        answer_unread(read);
+        answer_unread(streams, read);
         return;
     };
-    let out = output::standard(Program::Ask);
+    let out = output::standard(streams, Program::Ask);
     let bodies = basics::part(space, 0, length);
     write(out, rules, lengths, bodies, room, area).text(b"\n");
 }
 
 // The same, after the lists are read: so many rule numbers, and so many lengths.
-fn read_lists(room: usize, rules: usize, lengths: usize, area: &mut [u8], space: &mut [u8])
+fn read_lists(
+    rt: &impl Env,
+    streams: Streams,
+    room: usize,
+    rules: usize,
+    lengths: usize,
+    area: &mut [u8],
+    space: &mut [u8],
+)
     requires { (rules ≤ 1024)
         × (lengths ≤ 1024) }
 {
@@ -81,24 +112,32 @@ fn read_lists(room: usize, rules: usize, lengths: usize, area: &mut [u8], space:
     let mut length_list = [0u16; lists::LIMIT];
     let given_rules = &mut rule_list[0..rules];
     let given_lengths = &mut length_list[0..lengths];
-    if lists::read(given_rules, given_lengths, space) {
-        answer_lists(given_rules, given_lengths, room, area, space);
+    if lists::read(rt, given_rules, given_lengths, space) {
+        answer_lists(streams, given_rules, given_lengths, room, area, space);
     } else {
-        words::usage();
+        words::usage(streams);
     }
 }
 
 // The same, where both lists are short enough.
-fn answer_write(room: usize, rules: usize, lengths: usize, area: &mut [u8], space: &mut [u8]) {
+fn answer_write(
+    rt: &impl Env,
+    streams: Streams,
+    room: usize,
+    rules: usize,
+    lengths: usize,
+    area: &mut [u8],
+    space: &mut [u8],
+) {
     if rules > lists::LIMIT {
-        lists::tell_too_long();
+        lists::tell_too_long(streams);
         return;
     }
     if lengths > lists::LIMIT {
-        lists::tell_too_long();
+        lists::tell_too_long(streams);
         return;
     }
-    read_lists(room, rules, lengths, area, space);
+    read_lists(rt, streams, room, rules, lengths, area, space);
 }
 
 // What takes a large array: a trace, a proof, or a collection that is written.
@@ -118,25 +157,33 @@ enum Large {
 
 // The answer to these, with the array in a frame of its own. It is called in several places: what is called in one the
 // compiler makes a part of its caller, and then every form would have that room.
-fn answer_large(large: Large, space: &mut [u8]) {
+fn answer_large(rt: &(impl Env + Files), streams: Streams, large: Large, space: &mut [u8]) {
     let mut area = [0u8; series::ROOM];
     match large {
         Large::Series {
             subject,
             form,
             source,
-        } => answer_series(subject, form, source, &mut area, space),
+        } => answer_series(rt, streams, subject, form, source, &mut area, space),
         Large::Write {
             room,
             rules,
             lengths,
-        } => answer_write(room, rules, lengths, &mut area, space),
+        } => answer_write(rt, streams, room, rules, lengths, &mut area, space),
     }
 }
 
-fn answer_form(subject: Subject, form: Form, space: &mut [u8]) {
+fn answer_form(
+    rt: &(impl Env + Files),
+    streams: Streams,
+    subject: Subject,
+    form: Form,
+    space: &mut [u8],
+) {
     match form {
         Form::Trace { source, .. } | Form::Proof { source, .. } => answer_large(
+            rt,
+            streams,
             Large::Series {
                 subject,
                 form,
@@ -144,7 +191,7 @@ fn answer_form(subject: Subject, form: Form, space: &mut [u8]) {
             },
             space,
         ),
-        _ => answer(subject, form, b"", space),
+        _ => answer(streams, subject, form, b"", space),
     }
 }
 
@@ -156,20 +203,27 @@ fn numbered(out: Output, number: usize) -> Output {
     out
 }
 
-fn main() {
+fn main(rt: HostRuntime) {
+    let streams = Streams {
+        input: rt.stdin(),
+        output: rt.stdout(),
+        error: rt.stderr(),
+    };
     let mut space = [0u8; arguments::ROOM];
-    match asked::read(&mut space) {
-        Asked::Help => words::help(),
+    match asked::read(&rt, &mut space) {
+        Asked::Help => words::help(streams),
         Asked::Why { number } => {
-            let out = numbered(output::standard(Program::Ask), number);
+            let out = numbered(output::standard(streams, Program::Ask), number);
             printing::reason(out, number).text(b"\n");
         }
-        Asked::Form { subject, form } => answer_form(subject, form, &mut space),
+        Asked::Form { subject, form } => answer_form(&rt, streams, subject, form, &mut space),
         Asked::Write {
             room,
             rules,
             lengths,
         } => answer_large(
+            &rt,
+            streams,
             Large::Write {
                 room,
                 rules,
@@ -177,6 +231,6 @@ fn main() {
             },
             &mut space,
         ),
-        Asked::Unclear => words::usage(),
+        Asked::Unclear => words::usage(streams),
     }
 }

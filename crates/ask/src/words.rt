@@ -1,18 +1,26 @@
 // What the program says of itself.
-use output::{Output, Program};
+use output::{Output, Program, Streams};
 
 // A wrong form: one line on standard error.
-pub fn usage() {
+pub fn usage(streams: Streams) {
     output::error_text(
+        streams,
         b"usage: ask judge | classes AREA | step READING STATE MESSAGE | trace READING MESSAGE..",
     );
-    output::error_text(b" | trace READING @FILE | fault SET READING AREA");
-    output::error_text(b" | trust SET READING VERDICT AREA | proof SET READING BLOCK..");
+    output::error_text(streams, b" | trace READING @FILE | fault SET READING AREA");
     output::error_text(
+        streams,
+        b" | trust SET READING VERDICT AREA | proof SET READING BLOCK..",
+    );
+    output::error_text(
+        streams,
         b" | proof SET READING @FILE | blocks READING | rule RULE FORM.. | body RULE",
     );
-    output::error_text(b" | collection | write AREA RULE.. / LENGTH.. | why NUMBER");
-    output::error_text(b"; ask --help says more\n");
+    output::error_text(
+        streams,
+        b" | collection | write AREA RULE.. / LENGTH.. | why NUMBER",
+    );
+    output::error_text(streams, b"; ask --help says more\n");
 }
 
 // The forms that are asked of a body.
@@ -65,8 +73,8 @@ fn other_forms(out: Output) -> Output {
         .text(b"  ask why NUMBER                     what the number of a refusal stands for\n")
 }
 
-pub fn help() {
-    other_forms(body_forms(output::standard(Program::Ask)))
+pub fn help(streams: Streams) {
+    other_forms(body_forms(output::standard(streams, Program::Ask)))
         .text(
             b"\nA reading is 3 (settled marks) or 6 (classes); a set is the sum of loss 1, corruption 2, repeat 4,\n",
         )

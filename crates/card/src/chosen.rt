@@ -4,6 +4,7 @@ ghost use Rattle.std.specs.Prelude.{◌≡◌, eqb, get_or, set};
 use crate::page::Page;
 use arguments::Decimal;
 use output::Output;
+use std::env::Env;
 
 // The first number that is too great for a rule. It stands for all greater ones too.
 const BEYOND: usize = 65536;
@@ -12,13 +13,13 @@ const BEYOND: usize = 65536;
 pub const NUMBERS: usize = BEYOND + 1;
 
 // The byte of every number before the arguments are read: with no argument all are wanted.
-pub fn wanted_at_first() -> u8 {
-    if os::arg_count() < 2 { 1 } else { 0 }
+pub fn wanted_at_first(rt: &impl Env) -> u8 {
+    if arguments::count(rt) < 2 { 1 } else { 0 }
 }
 
 // Argument i as one of these numbers.
-fn number_at(i: usize, space: &mut [u8]) -> Decimal {
-    let Decimal::Number(number) = arguments::number_at(i, space) else {
+fn number_at(rt: &impl Env, i: usize, space: &mut [u8]) -> Decimal {
+    let Decimal::Number(number) = arguments::number_at(rt, i, space) else {
         return Decimal::NotANumber;
     };
     Decimal::Number(basics::least_of(number, BEYOND))
@@ -31,11 +32,11 @@ fn mark(wanted: &mut [u8], number: usize) {
 }
 
 // Marks what the arguments ask for. Answers whether every argument is a number.
-pub fn read_arguments(wanted: &mut [u8], space: &mut [u8]) -> bool {
-    let count = os::arg_count();
+pub fn read_arguments(rt: &impl Env, wanted: &mut [u8], space: &mut [u8]) -> bool {
+    let count = arguments::count(rt);
     let mut i = 1;
     while i < count {
-        let Decimal::Number(number) = number_at(i, space) else {
+        let Decimal::Number(number) = number_at(rt, i, space) else {
             return false;
         };
         mark(wanted, number);
@@ -68,8 +69,8 @@ fn missing(out: Output, number: usize) -> Output {
 }
 
 // Prints this line for argument i if it is still wanted.
-fn missing_line(page: Page, wanted: &mut [u8], i: usize, space: &mut [u8]) -> Page {
-    let Decimal::Number(number) = number_at(i, space) else {
+fn missing_line(rt: &impl Env, page: Page, wanted: &mut [u8], i: usize, space: &mut [u8]) -> Page {
+    let Decimal::Number(number) = number_at(rt, i, space) else {
         return page;
     };
     if !take(wanted, number) {
@@ -82,12 +83,12 @@ fn missing_line(page: Page, wanted: &mut [u8], i: usize, space: &mut [u8]) -> Pa
 }
 
 // These lines, once for each number, in the order of the arguments.
-pub fn missing_lines(page: Page, wanted: &mut [u8], space: &mut [u8]) {
-    let count = os::arg_count();
+pub fn missing_lines(rt: &impl Env, page: Page, wanted: &mut [u8], space: &mut [u8]) {
+    let count = arguments::count(rt);
     let mut after = page;
     let mut i = 1;
     while i < count {
-        after = missing_line(after, wanted, i, space);
+        after = missing_line(rt, after, wanted, i, space);
         i += 1;
     }
 }

@@ -8,8 +8,9 @@ mod words;
 
 use collection::Collected;
 use input::Input;
-use output::{Output, Program};
+use output::{Output, Program, Streams};
 use page::Page;
+use std::env::Env;
 
 // The cards of the rules that are asked for, with an empty line between two.
 fn cards(page: Page, file: &[u8], count: usize, wanted: &mut [u8]) -> Page {
@@ -37,7 +38,7 @@ fn no_rules(out: Output, count: usize) -> Output {
 }
 
 // The collection is what is first in the space, so many bytes.
-fn report(out: Output, length: usize, wanted: &mut [u8], space: &mut [u8]) {
+fn report(rt: &impl Env, out: Output, length: usize, wanted: &mut [u8], space: &mut [u8]) {
     match collection::judge(basics::part(space, 0, length)) {
         Collected::Refused(r) => words::collection_refusal(out, r),
         Collected::Accepted { count } => {
@@ -46,30 +47,35 @@ fn report(out: Output, length: usize, wanted: &mut [u8], space: &mut [u8]) {
                 gap_due: false,
             };
             let shown = cards(page, basics::part(space, 0, length), count, wanted);
-            chosen::missing_lines(shown, wanted, space);
+            chosen::missing_lines(rt, shown, wanted, space);
         }
     }
 }
 
-fn answer(out: Output, wanted: &mut [u8], space: &mut [u8]) {
-    match input::read(Program::Card, space) {
-        Input::Whole { length } => report(out, length, wanted, space),
+fn answer(rt: &impl Env, streams: Streams, out: Output, wanted: &mut [u8], space: &mut [u8]) {
+    match input::read(streams, Program::Card, space) {
+        Input::Whole { length } => report(rt, out, length, wanted, space),
         Input::Refused(r) => words::collection_refusal(out, r),
         Input::Failed => {}
     }
 }
 
-fn main() {
-    let out = output::standard(Program::Card);
+fn main(rt: HostRuntime) {
+    let streams = Streams {
+        input: rt.stdin(),
+        output: rt.stdout(),
+        error: rt.stderr(),
+    };
+    let out = output::standard(streams, Program::Card);
     let mut space = [0u8; arguments::ROOM];
-    if arguments::is_word(1, b"--help", &mut space) {
+    if arguments::is_word(&rt, 1, b"--help", &mut space) {
         words::help(out);
         return;
     }
-    let mut wanted = [chosen::wanted_at_first(); chosen::NUMBERS];
-    if chosen::read_arguments(&mut wanted, &mut space) {
-        answer(out, &mut wanted, &mut space);
+    let mut wanted = [chosen::wanted_at_first(&rt); chosen::NUMBERS];
+    if chosen::read_arguments(&rt, &mut wanted, &mut space) {
+        answer(&rt, streams, out, &mut wanted, &mut space);
     } else {
-        words::usage();
+        words::usage(streams);
     }
 }

@@ -1,9 +1,10 @@
 // What the program says of itself, and of a collection that is refused.
 use basics::Refusal;
-use output::Output;
+use output::{Output, Streams};
 
-pub fn usage() {
+pub fn usage(streams: Streams) {
     output::error_text(
+        streams,
         b"usage: card [RULE..], with a collection on standard input; card --help says more\n",
     );
 }

@@ -3,18 +3,23 @@
 
 use basics::Writing;
 use input::Filled;
-use output::{Output, Program};
+use output::{Output, Program, Streams};
+use std::env::Env;
 
 // Writes the listing of the input, or of its first bytes where it is longer than it may be. That the area holds every
 // listing is a theorem, so nothing is refused.
-fn list(out: Output, file: &[u8]) {
+fn list(streams: Streams, out: Output, file: &[u8]) {
     let mut area = [0u8; listing_text::LISTING_ROOM];
     match listing_text::write(file, &mut area) {
         Writing::Written { length } => {
             out.text(basics::part(&area, 0, length));
         }
         Writing::Refused(_) => {
-            output::complaint(Program::Listing, b"the listing is longer than its area")
+            output::complaint(
+                streams,
+                Program::Listing,
+                b"the listing is longer than its area",
+            )
         }
     }
 }
@@ -37,31 +42,37 @@ enum Asked {
     Unclear,
 }
 
-fn read_arguments(space: &mut [u8]) -> Asked {
-    if os::arg_count() < 2 {
+fn read_arguments(rt: &impl Env, space: &mut [u8]) -> Asked {
+    if arguments::count(rt) < 2 {
         return Asked::Listing;
     }
-    if arguments::is_word(1, b"--help", space) {
+    if arguments::is_word(rt, 1, b"--help", space) {
         return Asked::Help;
     }
     Asked::Unclear
 }
 
-fn answer(out: Output, space: &mut [u8]) {
-    match input::read_first(Program::Listing, space) {
-        Filled::Whole { length } => list(out, basics::part(space, 0, length)),
-        Filled::Longer => list(out, basics::part(space, 0, input::SIZE)),
+fn answer(streams: Streams, out: Output, space: &mut [u8]) {
+    match input::read_first(streams, Program::Listing, space) {
+        Filled::Whole { length } => list(streams, out, basics::part(space, 0, length)),
+        Filled::Longer => list(streams, out, basics::part(space, 0, input::SIZE)),
         Filled::Failed => {}
     }
 }
 
-fn main() {
-    let out = output::standard(Program::Listing);
+fn main(rt: HostRuntime) {
+    let streams = Streams {
+        input: rt.stdin(),
+        output: rt.stdout(),
+        error: rt.stderr(),
+    };
+    let out = output::standard(streams, Program::Listing);
     let mut space = [0u8; input::SIZE];
-    match read_arguments(&mut space) {
-        Asked::Listing => answer(out, &mut space),
+    match read_arguments(&rt, &mut space) {
+        Asked::Listing => answer(streams, out, &mut space),
         Asked::Help => print_help(out),
         Asked::Unclear => output::error_text(
+            streams,
             b"usage: listing, with a collection on standard input; listing --help says more\n",
         ),
     }

@@ -1,16 +1,17 @@
 // What the program says of itself and of a refusal.
 use basics::Refusal;
-use output::{Output, Program};
+use output::{Output, Program, Streams};
 
 // A wrong form: one line on standard error.
-pub fn usage() {
+pub fn usage(streams: Streams) {
     output::error_text(
+        streams,
         b"usage: pack RULE FILE [RULE FILE].. > COLLECTION; pack --help says more\n",
     );
 }
 
-pub fn help() {
-    output::standard(Program::Pack)
+pub fn help(streams: Streams) {
+    output::standard(streams, Program::Pack)
         .text(
             b"pack writes a collection to standard output: a rule for each pair of arguments, its number and the\n",
         )
@@ -35,7 +36,7 @@ fn named(out: Output, number: usize, name: &[u8]) -> Output {
 }
 
 // One line on standard error: the refusal, the file, and the reason in words.
-pub fn refusal(r: Refusal, name: &[u8]) {
-    let told = printing::refusal(output::error(Program::Pack), r);
+pub fn refusal(streams: Streams, r: Refusal, name: &[u8]) {
+    let told = printing::refusal(output::error(streams, Program::Pack), r);
     printing::reason(named(told, r.number, name).text(b": "), r.number).text(b"\n");
 }

@@ -7,7 +7,7 @@
 ghost use Rattle.std.specs.Prelude.{◌+◌, ◌≤◌, ◌<◌, length};
 
 use basics::Writing;
-use output::{Output, Program};
+use output::{Output, Program, Streams};
 use rows::PREDECESSORS;
 use theory::SQUARE_SIZE;
 use witness::WITNESS_ROOM;
@@ -175,13 +175,14 @@ fn answered(
 }
 
 fn answer(
+    streams: Streams,
     square: &mut [u16; SQUARE_SIZE],
     predecessors: &mut [u64; PREDECESSORS],
     witnesses: &mut [u8; WITNESS_ROOM],
     frame: &[u8],
 ) {
     if frame.len() >= 4 {
-        let out = output::standard(Program::Test);
+        let out = output::standard(streams, Program::Test);
         answered(square, predecessors, witnesses, out, frame, &frame[4..]).text(b"\n");
     }
 }
@@ -207,6 +208,7 @@ fn frame_end(input: &[u8], at: usize) -> usize
 }
 
 fn answers(
+    streams: Streams,
     square: &mut [u16; SQUARE_SIZE],
     predecessors: &mut [u64; PREDECESSORS],
     witnesses: &mut [u8; WITNESS_ROOM],
@@ -215,18 +217,30 @@ fn answers(
     let mut at = 0;
     while at + 2 <= input.len() {
         let end = frame_end(input, at);
-        answer(square, predecessors, witnesses, &input[at + 2..end]);
+        answer(
+            streams,
+            square,
+            predecessors,
+            witnesses,
+            &input[at + 2..end],
+        );
         at = end;
     }
 }
 
-fn main() {
+fn main(rt: HostRuntime) {
+    let streams = Streams {
+        input: rt.stdin(),
+        output: rt.stdout(),
+        error: rt.stderr(),
+    };
     let mut input = [0u8; 65536];
     let length = io::read_full(0, &mut input);
     let mut square = square::blank();
     let mut predecessors = [0u64; PREDECESSORS];
     let mut witnesses = [0u8; WITNESS_ROOM];
     answers(
+        streams,
         &mut square,
         &mut predecessors,
         &mut witnesses,

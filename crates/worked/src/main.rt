@@ -3,15 +3,15 @@
 
 use basics::Writing;
 use faults::{FaultSet, Kind};
-use output::{Output, Program};
+use output::{Output, Program, Streams};
 
-fn named(name: &[u8]) -> Output {
-    output::standard(Program::Test).text(name)
+fn named(streams: Streams, name: &[u8]) -> Output {
+    output::standard(streams, Program::Test).text(name)
 }
 
 // The finding, and what the area then holds. Every place of the area is 255 before.
-fn example(name: &[u8], body: &[u8], set: usize, domain: usize, room: usize) {
-    let asked = named(name)
+fn example(streams: Streams, name: &[u8], body: &[u8], set: usize, domain: usize, room: usize) {
+    let asked = named(streams, name)
         .text(b", set ")
         .number(set)
         .text(b", reading ")
@@ -26,58 +26,85 @@ fn example(name: &[u8], body: &[u8], set: usize, domain: usize, room: usize) {
     }
 }
 
-fn both(name: &[u8], body: &[u8], set: usize) {
-    example(name, body, set, 3, 4);
-    example(name, body, set, 6, 4);
+fn both(streams: Streams, name: &[u8], body: &[u8], set: usize) {
+    example(streams, name, body, set, 3, 4);
+    example(streams, name, body, set, 6, 4);
 }
 
 // The card, as the listing's line of rule 0 has it behind the rule number.
-fn card(name: &[u8], body: &[u8]) {
+fn card(streams: Streams, name: &[u8], body: &[u8]) {
     let mut area = [0u8; 256];
     let Writing::Written { length } = lines::write_line(0, body, &mut area) else {
         return;
     };
     let line = basics::part(basics::part(&area, 0, length), 2, 256);
-    named(name).text(b", card: ").text(line);
+    named(streams, name).text(b", card: ").text(line);
 }
 
 // Each fault alone, and the card.
-fn table(name: &[u8], body: &[u8]) {
-    both(name, body, FaultSet::empty().with(Kind::Loss).number());
+fn table(streams: Streams, name: &[u8], body: &[u8]) {
     both(
+        streams,
+        name,
+        body,
+        FaultSet::empty().with(Kind::Loss).number(),
+    );
+    both(
+        streams,
         name,
         body,
         FaultSet::empty().with(Kind::Corruption).number(),
     );
-    both(name, body, FaultSet::empty().with(Kind::Repeat).number());
-    both(name, body, FaultSet::empty().with(Kind::Swap).number());
-    card(name, body);
+    both(
+        streams,
+        name,
+        body,
+        FaultSet::empty().with(Kind::Repeat).number(),
+    );
+    both(
+        streams,
+        name,
+        body,
+        FaultSet::empty().with(Kind::Swap).number(),
+    );
+    card(streams, name, body);
 }
 
-fn trace(name: &[u8], body: &[u8], symbols: &[u8]) {
-    printing::traced(named(name), readings::trace(body, 3, symbols)).text(b"\n");
+fn trace(streams: Streams, name: &[u8], body: &[u8], symbols: &[u8]) {
+    printing::traced(named(streams, name), readings::trace(body, 3, symbols)).text(b"\n");
 }
 
-fn tables() {
-    table(b"A", b"\x02\x02\x00\x00\x01\x00\x01\x01\x01");
-    table(b"B", b"\x02\x02\x00\x00\x02\x01\x00\x01\x01");
+fn tables(streams: Streams) {
+    table(streams, b"A", b"\x02\x02\x00\x00\x01\x00\x01\x01\x01");
+    table(streams, b"B", b"\x02\x02\x00\x00\x02\x01\x00\x01\x01");
     table(
+        streams,
         b"C",
         b"\x03\x04\x00\x00\x01\x02\x02\x00\x01\x01\x01\x01\x01\x01\x02\x02\x02\x02",
     );
-    table(b"D", b"\x01\x02\x00\x00\x00\x00");
-    table(b"E", b"\x03\x02\x00\x00\x00\x01\x00\x01\x00\x02\x02\x02");
+    table(streams, b"D", b"\x01\x02\x00\x00\x00\x00");
     table(
+        streams,
+        b"E",
+        b"\x03\x02\x00\x00\x00\x01\x00\x01\x00\x02\x02\x02",
+    );
+    table(
+        streams,
         b"G",
         b"\x05\x02\x00\x00\x00\x01\x00\x02\x03\x01\x01\x02\x02\x02\x04\x03\x04\x04",
     );
-    table(b"H", b"\x02\x01\x00\x00\x01\x01\x01");
-    card(b"A with a mark 3", b"\x02\x02\x00\x00\x03\x00\x01\x01\x01");
+    table(streams, b"H", b"\x02\x01\x00\x00\x01\x01\x01");
+    card(
+        streams,
+        b"A with a mark 3",
+        b"\x02\x02\x00\x00\x03\x00\x01\x01\x01",
+    );
 }
 
 // Series are compared, not traces: the kind before the sent messages, and a fault step before a plain one.
-fn written_order() {
+fn written_order(streams: Streams) {
     both(
+        streams,
         b"A",
         b"\x02\x02\x00\x00\x01\x00\x01\x01\x01",
         FaultSet::empty()
@@ -86,11 +113,13 @@ fn written_order() {
             .number(),
     );
     both(
+        streams,
         b"0 0 harmed too",
         b"\x03\x02\x00\x00\x00\x01\x01\x00\x00\x02\x02\x02",
         FaultSet::empty().with(Kind::Corruption).number(),
     );
     both(
+        streams,
         b"0 0 1 harmed too",
         b"\x03\x02\x00\x00\x00\x01\x01\x00\x02\x00\x02\x02",
         FaultSet::empty().with(Kind::Swap).number(),
@@ -98,19 +127,20 @@ fn written_order() {
 }
 
 // The sent trace 1 is harmed by two repeats and by no single one.
-fn three_ones() {
+fn three_ones(streams: Streams) {
     let body = b"\x04\x02\x00\x00\x00\x00\x01\x00\x01\x00\x02\x00\x03\x03\x03";
     both(
+        streams,
         b"three 1s",
         body,
         FaultSet::empty().with(Kind::Repeat).number(),
     );
-    trace(b"three 1s on 1: ", body, b"\x01");
-    trace(b"three 1s on 1 1: ", body, b"\x01\x01");
-    trace(b"three 1s on 1 1 1: ", body, b"\x01\x01\x01");
+    trace(streams, b"three 1s on 1: ", body, b"\x01");
+    trace(streams, b"three 1s on 1 1: ", body, b"\x01\x01");
+    trace(streams, b"three 1s on 1 1 1: ", body, b"\x01\x01\x01");
 }
 
-fn immune() {
+fn immune(streams: Streams) {
     let all = FaultSet::empty()
         .with(Kind::Loss)
         .with(Kind::Corruption)
@@ -118,9 +148,10 @@ fn immune() {
         .with(Kind::Swap)
         .number();
     let d = b"\x01\x02\x00\x00\x00\x00";
-    both(b"D", d, all);
-    example(b"D, area of 0", d, all, 3, 0);
+    both(streams, b"D", d, all);
+    example(streams, b"D, area of 0", d, all, 3, 0);
     both(
+        streams,
         b"A",
         b"\x02\x02\x00\x00\x01\x00\x01\x01\x01",
         FaultSet::empty()
@@ -129,16 +160,19 @@ fn immune() {
             .number(),
     );
     both(
+        streams,
         b"harm out of reach",
         b"\x03\x02\x00\x01\x00\x02\x00\x00\x01\x02\x02\x02",
         all,
     );
     both(
+        streams,
         b"two states that read alike",
         b"\x02\x02\x00\x00\x00\x01\x00\x00\x01",
         all,
     );
     both(
+        streams,
         b"E",
         b"\x03\x02\x00\x00\x00\x01\x00\x01\x00\x02\x02\x02",
         FaultSet::empty().number(),
@@ -147,23 +181,28 @@ fn immune() {
 
 // Question 13, and questions 9 and 10 in this order after those of the body. Numbers that do not fit a byte are not
 // cut.
-fn refusals() {
+fn refusals(streams: Streams) {
     let e = b"\x03\x02\x00\x00\x00\x01\x00\x01\x00\x02\x02\x02";
     let swap = FaultSet::empty().with(Kind::Swap).number();
-    example(b"E, area of 3", e, swap, 3, 3);
-    example(b"E, area of 2", e, swap, 3, 2);
-    example(b"E", e, 16, 3, 4);
-    example(b"E", e, 257, 3, 4);
-    example(b"E", e, 99, 5, 4);
-    example(b"E", e, swap, 5, 4);
-    example(b"E", e, swap, 259, 4);
-    example(b"2 bytes", b"\x02\x02", 99, 5, 4);
+    example(streams, b"E, area of 3", e, swap, 3, 3);
+    example(streams, b"E, area of 2", e, swap, 3, 2);
+    example(streams, b"E", e, 16, 3, 4);
+    example(streams, b"E", e, 257, 3, 4);
+    example(streams, b"E", e, 99, 5, 4);
+    example(streams, b"E", e, swap, 5, 4);
+    example(streams, b"E", e, swap, 259, 4);
+    example(streams, b"2 bytes", b"\x02\x02", 99, 5, 4);
 }
 
-fn main() {
-    tables();
-    written_order();
-    three_ones();
-    immune();
-    refusals();
+fn main(rt: HostRuntime) {
+    let streams = Streams {
+        input: rt.stdin(),
+        output: rt.stdout(),
+        error: rt.stderr(),
+    };
+    tables(streams);
+    written_order(streams);
+    three_ones(streams);
+    immune(streams);
+    refusals(streams);
 }
