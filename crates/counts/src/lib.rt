@@ -13,7 +13,7 @@ use monitor::Shape;
 use readings::Count;
 
 // The counts of a sent trace and of what is received in its place.
-#[derive(Drop)]
+#[derive(Clone, Copy)]
 pub struct Counts {
     pub sent: Count,
     pub received: Count,
