@@ -12,14 +12,14 @@ use witness::Witness;
 const COLUMNS: usize = 36;
 
 // What one of the two traces has where the fault strikes, and what the other has there.
-#[derive(Drop)]
+#[derive(Clone, Copy)]
 struct Struck {
     here: Symbols,
     other: Symbols,
 }
 
 // What is drawn: a witness with its fault step, by marks or by classes.
-#[derive(Drop)]
+#[derive(Clone, Copy)]
 struct Sketch {
     witness: Witness,
     fault: Fault,
