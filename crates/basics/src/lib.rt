@@ -11,7 +11,7 @@ pub struct Refusal {
 }
 
 // What a call answers that writes bytes into an area: how many it wrote, or a refusal.
-#[derive(Drop)]
+#[derive(Clone, Copy)]
 pub enum Writing {
     Written { length: usize },
     Refused(Refusal),

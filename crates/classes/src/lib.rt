@@ -20,7 +20,7 @@ use opening::Opened;
 use state_set::StateSet;
 use theory::STATE_LIMIT;
 
-#[derive(Drop)]
+#[derive(Clone, Copy)]
 pub enum Classification {
     Classified {
         monitorability: usize,

@@ -14,7 +14,7 @@ use theory::SQUARE_SIZE;
 use witness::{Outcome, Witness};
 
 // Whether a verdict can be believed: if not, the witness reads it when received and another when sent.
-#[derive(Drop)]
+#[derive(Clone, Copy)]
 pub enum Trust {
     Refused(Refusal),
     Yes,
