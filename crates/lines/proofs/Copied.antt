@@ -5,7 +5,6 @@ use Prim.Native.Nat.{ℕ, ◌≤◌, ◌<◌}
 use native.Mathlib.Nat.{zero-add}
 use native.Mathlib.Omega.{arith}
 use lib.ListN.{length, take, drop, length-take}
-use lib.Seq.{take-length}
 use borrow.Author.Tests.{le-leb, lt-leb}
 use Rattle.theory.specs.Answer.{refused, answered, written}
 use Rattle.theory.proofs.Answer.{written_over}
@@ -32,8 +31,7 @@ module _ {text before after : List ℕ} {to : ℕ} (p : Put text before 0 after 
       pub text_fits : answered (to ∷ []) ≡ text_answer text (length area)
       text_fits = rw (← text_length, le-leb to (length area) h)
 
-      pub text_written : take (length (take to after)) (take to after) ++ drop (length (take to after)) area ≡ written (text_answer text (length area)) text area
+      pub text_written : take to after ++ drop (length (take to after)) area ≡ written (text_answer text (length area)) text area
       text_written =
-          ap (λ (l : List ℕ). take (length l) l ++ drop (length l) area) text_held
-          ∙ ap (λ (l : List ℕ). l ++ drop (length text) area) (take-length text)
+          ap (λ (l : List ℕ). l ++ drop (length l) area) text_held
           ∙ written_over text area (sym text_fits)

@@ -129,7 +129,7 @@ module _ (limit rule : ℕ) (body : List ℕ) {before after : List ℕ} {to : �
       unfolding line_answer
       line_fits = text_fits p area h
 
-      pub line_written : take (length (take to after)) (take to after) ++ drop (length (take to after)) area ≡ written
+      pub line_written : take to after ++ drop (length (take to after)) area ≡ written
           (line_answer limit rule body (length area)) (rule_line limit rule body) area
       unfolding line_answer
       line_written = text_written p area h

@@ -77,7 +77,7 @@ fn put_monitorability(monitorability: usize, buffer: &mut [u8], at: usize) -> us
 // A space and what a finding without a distance is shown as.
 fn put_no_distance(finding: Finding, buffer: &mut [u8], at: usize) -> usize
     requires at_in_bounds { at + 21 ≤ length buffer.old }
-    requires fact { (w : Witness) → finding ≡ Finding.Vulnerable w → ⊥ }
+    requires no_witness { (w : Witness) → finding ≡ Finding.Vulnerable w → ⊥ }
     ensures { Put (ascii " " ++ finding_text finding) buffer.old at buffer.new result
         × (result ≤ at + 21) }
 {
