@@ -1,11 +1,9 @@
 -- The text by what the questions answer, and how long it is at most.
 use mathlib.Core.Path.{◌≡◌, refl, sym, ap, ◌∙◌}
-use mathlib.Core.Bool.{true}
-use mathlib.Core.List.{List, [], ◌∷◌, ◌++◌}
-use Prim.Native.Nat.{ℕ, zero, suc, ◌+◌, ◌*◌, ◌≤◌, ◌<◌}
+use mathlib.Core.List.{List, [], ◌∷◌}
+use Prim.Native.Nat.{ℕ, zero, suc, ◌*◌, ◌≤◌, ◌<◌}
 use native.Mathlib.Omega.{arith}
 use lib.ListN.{length, length-append}
-use lib.Dec.{leb}
 use borrow.Author.Tests.{le-leb, lt-leb, leb-true}
 use Rattle.theory.specs.Lists.{each}
 use Rattle.theory.specs.Answer.{Question, Answer, refused, answered, asks}
@@ -14,7 +12,6 @@ use Rattle.theory.proofs.Answer.{asks_yes, asks_values, asks_other, asks_refuses
 use Rattle.monitor.specs.Questions.{no_values}
 use Rattle.collection.specs.Contents.{count_of, rule_of, entry_limit, question20, question21, question22, question23, question24, question25}
 use Rattle.collection.specs.Contents.{collection_questions, collection_answer}
-use Rattle.lines.specs.Text.{ascii, decimal}
 use Rattle.lines.specs.Line.{line_most}
 use Rattle.lines.proofs.Decimal.{decimal_short}
 use Rattle.lines.proofs.Lengths.{Five, Told, told_by}

@@ -1,7 +1,7 @@
 -- Lines put one behind the other: each fits, and together they are the lines of the entries.
-use mathlib.Core.Path.{◌≡◌, refl, sym, ap, ap₂, ◌∙◌}
+use mathlib.Core.Path.{◌≡◌, refl, sym, ap, ◌∙◌}
 use mathlib.Core.List.{List, [], ◌∷◌, ◌++◌, append_assoc, append-nil}
-use Prim.Native.Nat.{ℕ, suc, ◌+◌, ◌*◌, ◌-◌, ◌≤◌, ◌<◌}
+use Prim.Native.Nat.{ℕ, ◌+◌, ◌*◌, ◌-◌, ◌≤◌, ◌<◌}
 use native.Mathlib.Nat.{add-zero}
 use native.Mathlib.Numerals.{add-one}
 use native.Mathlib.Omega.{arith}
@@ -9,7 +9,7 @@ use lib.ListN.{length, take, drop, length-append, length-take, length-drop}
 use lib.Seq.{take_at}
 use borrow.Author.Tests.{le-leb}
 use Rattle.theory.specs.Lists.{each}
-use Rattle.theory.specs.Answer.{Answer, refused, answered, written}
+use Rattle.theory.specs.Answer.{refused, answered, written}
 use Rattle.theory.specs.Computed.{horizon}
 use Rattle.theory.proofs.Answer.{written_over}
 use Rattle.collection.specs.Contents.{offset_of, length_of, rule_of, body_of}

@@ -1,5 +1,5 @@
 -- The whole text of the listing, from the bytes that the program is given.
-use Rattle.std.specs.Prelude.{List, [], ◌∷◌, ◌++◌, ℕ, ◌+◌, ◌*◌, length, leb}
+use Rattle.std.specs.Prelude.{List, ◌∷◌, ◌++◌, ℕ, ◌+◌, ◌*◌, length, leb}
 use Rattle.theory.specs.Lists.{each}
 use Rattle.theory.specs.Answer.{Question, Answer, refused, answered, asks}
 use Rattle.monitor.specs.Questions.{no_values}
