@@ -1,5 +1,5 @@
 -- The listing of a collection, proved of every file.
-use mathlib.Core.Path.{◌≡◌, ap}
+use mathlib.Core.Path.{ap}
 use mathlib.Core.Bool.{Bool, true, false, cond}
 use mathlib.Core.List.{List, []}
 use Prim.Native.Nat.{ℕ, ◌+◌, ◌*◌, ◌<◌}
@@ -12,7 +12,7 @@ use Rattle.monitor.specs.Questions.{no_values}
 use Rattle.collection.specs.Contents.{number_at, count_of, rule_of}
 use Rattle.writer.specs.Reading.{Bytes}
 use Rattle.writer.proofs.Numbers.{bytes_take, bytes_drop}
-use Rattle.listing_text.specs.Listing.{listing_questions, judged_text, listing_text, listing_answer, listing_room}
+use Rattle.listing_text.specs.Listing.{listing_questions, judged_text, listing_text, listing_answer}
 use Rattle.listing_text.proofs.Judged.{listing_short}
 use Rattle.demands.specs.Listings.{Listings}
 use Rattle.demands.proofs.DemandOne.{asks_judged}
