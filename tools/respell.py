@@ -19,7 +19,8 @@ DECLARED = re.compile(
     r"^\s*(?:(?:pub|abbrev|unfoldable|private) )*([a-z][\w'₀-₉-]*(?: [a-z][\w'₀-₉-]*)*) :(?: |$)")
 LIBRARIES = ("Rattle.std.", "mathlib.", "native.", "lib.", "Prim.", "borrow.", "denote.", "Rattle.core.")
 
-# Lemmas whose name would fall together with a definition's or, the last two, with a library's.
+# Lemmas whose name would fall together with a definition's or, the last two of these, with a library's; and two that
+# name a word of the library, which is `get_or` today.
 APART = {
     "column-texts": "column_texts_lem",
     "count-from": "count_from_lem",
@@ -43,6 +44,8 @@ APART = {
     "until-verdict": "until_verdict_lem",
     "bit-and": "bit_and_lem",
     "bit-or": "bit_or_lem",
+    "getD-values": "get_or_values",
+    "getD-filled": "get_or_filled",
 }
 
 

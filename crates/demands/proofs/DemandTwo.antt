@@ -17,7 +17,7 @@ use Rattle.theory.specs.Extent.{number}
 use Rattle.theory.specs.Distance.{Harmed, Distance, FirstWitness}
 use Rattle.theory.specs.Computed.{extent_of, first_witness}
 use Rattle.theory.proofs.Answer.{asks_values}
-use Rattle.theory.proofs.Values.{get_d_filled}
+use Rattle.theory.proofs.Values.{get_or_filled}
 use Rattle.theory.proofs.Exact.{class_exact, monitorability_exact, reached_in, reached_exact}
 use Rattle.theory.proofs.Distance.{alike_or_differ, distance_exact, witness_first, first_only}
 use Rattle.monitor.specs.Format.{states_of, monitor_of}
@@ -30,7 +30,7 @@ use Rattle.demands.specs.DemandTwo.{Published, Askable, Unharmed, Found, immune,
 use Rattle.demands.proofs.DemandOne.{each_one, summary_asks, column_asks}
 
 byte_class : (m : Monitor) (q : ℕ) → q < m.automaton.states → get_or (class_list m) q 0 ≡ class m q
-byte_class m q l = ap (λ (v : List ℕ). get_or v q 0) (sym (append-nil (class_list m))) ∙ get_d_filled (class m) [] m.automaton.states q l
+byte_class m q l = ap (λ (v : List ℕ). get_or v q 0) (sym (append-nil (class_list m))) ∙ get_or_filled (class m) [] m.automaton.states q l
 
 -- a finding without values says that no trace is harmed
 no_values_lem : {m : Monitor} {d set : ℕ} {given : FaultFigures} {bytes : List ℕ} → Found m d set given bytes → given ≡ none → Unharmed m d set

@@ -17,7 +17,7 @@ use Rattle.theory.specs.Monitor.{Monitor, WellFormed, symbol_limit}
 use Rattle.theory.proofs.Below.{not_clash, and_left, and_right, first_is, first_none}
 use Rattle.theory.proofs.Lists.{each_at}
 use Rattle.theory.proofs.Answer.{all_answered}
-use Rattle.theory.proofs.Values.{length_values, values_same, values_front, get_d_values, get_d_filled}
+use Rattle.theory.proofs.Values.{length_values, values_same, values_front, get_or_values, get_or_filled}
 use Rattle.monitor.specs.Format.{states_of, symbols_of, start_of, drawn_marks, nexts, drawn_of}
 use Rattle.monitor.specs.Questions.{first_not_below, revokes, first_revoking, head_questions, no_values, judge_answer}
 use Rattle.monitor.proofs.Head.{Head, passed_head}
@@ -43,7 +43,7 @@ module _ (k : ℕ) where
       ap (λ (xs : List ℕ). get_or xs (q * k + a) 0) r.1
       ∙ ap (λ (i : ℕ). get_or (front ++ (values k (f q) ++ r.0)) (i + a) 0) (sym (length_rows f q))
       ∙ get_or-append-add front (values k (f q) ++ r.0) a 0
-      ∙ get_d_filled (f q) r.0 k a h
+      ∙ get_or_filled (f q) r.0 k a h
 
   -- the rows of a list are the list
   rows_front : (l : List ℕ) (n : ℕ) → n * k ≤ length l → each n (λ q. values k (λ a. get_or l (q * k + a) 0)) ≡ take (n * k) l
@@ -164,7 +164,7 @@ module _ (m : Monitor) where
     states = refl;
     symbols = refl;
     start = refl;
-    marks = λ q l. sym (ap (λ (xs : List ℕ). get_or xs q 0) marks_read ∙ get_d_values states m.verdict q l);
+    marks = λ q l. sym (ap (λ (xs : List ℕ). get_or xs q 0) marks_read ∙ get_or_values states m.verdict q l);
     nexts = λ q a l h. sym (ap (λ (xs : List ℕ). get_or xs (q * symbols + a) 0) nexts_read ∙ row_at symbols m.automaton.next states q a l h);
   }
 

@@ -15,7 +15,7 @@ use Rattle.theory.specs.Automaton.{Automaton, inevitable_within, inevitable}
 use Rattle.theory.specs.Monitor.{Monitor, WellFormed, marked, state_limit}
 use Rattle.theory.specs.Settled.{settled_mark}
 use Rattle.theory.proofs.Below.{or_cases, and_left, and_right, same_or_not, every_at, every_all, count_le, count_more}
-use Rattle.theory.proofs.Values.{filled, length_filled, get_d_filled, length_values, values_front, values_same}
+use Rattle.theory.proofs.Values.{filled, length_filled, get_or_filled, length_values, values_front, values_same}
 use Rattle.theory.proofs.Inevitable.{inevitable_enough}
 use Rattle.theory.proofs.Settled.{sure_here, sure_before, sure_one, sure_mark, mark_sure}
 use Rattle.monitor.specs.Format.{automaton_of, table_of, settled_marks, Table}
@@ -178,7 +178,7 @@ module _ {n k s : ℕ} {vs ts copied : List ℕ} (t : Table state_limit n k s vs
     upto = omega arith;
     size = refl;
     rest = refl;
-    settling = settling_first t.well_formed (λ q l. rw is_filled (get_d_filled (mark_in vs) (drop n area) n q l));
+    settling = settling_first t.well_formed (λ q l. rw is_filled (get_or_filled (mark_in vs) (drop n area) n q l));
     none = λ p l. absurd (omega arith);
   }
 

@@ -9,7 +9,7 @@ use native.Mathlib.Omega.{arith}
 use lib.Dec.{eqb}
 use lib.ListN.{length}
 use borrow.Author.Tests.{eqb-true, eqb-false, eq-eqb, not-true}
-use Rattle.theory.specs.Below.{every, first}
+use Rattle.theory.specs.Below.{first}
 use Rattle.theory.specs.Lists.{In, any_in}
 use Rattle.theory.specs.Automaton.{Automaton, Trace, run, Reaches}
 use Rattle.theory.specs.Monitor.{Monitor, WellFormed, reading, reached}
@@ -22,7 +22,7 @@ use Rattle.theory.specs.Certificate.{made_blocks}
 use Rattle.theory.proofs.Below.{clash, not_clash, is_true, and_left, and_right, and_both, lt_or_le, any_at, any_find, every_at, every_all}
 use Rattle.theory.proofs.Below.{first_is, first_le, first_below, first_here}
 use Rattle.theory.proofs.Lists.{any_in_at, any_in_find}
-use Rattle.theory.proofs.Values.{get_d_values, length_values}
+use Rattle.theory.proofs.Values.{get_or_values, length_values}
 use Rattle.theory.proofs.Reach.{run_in}
 use Rattle.theory.proofs.Exact.{reached_exact, reached_in}
 use Rattle.theory.proofs.Pairs.{told_sound, told_complete, told_settled}
@@ -206,7 +206,7 @@ module _ {limit : ℕ} {m : Monitor} (w : WellFormed limit m) where
           clash ((alike_exact p q (omega (arith, b, l, lowest_most)) l).1 h) (first_below (λ p. alike m d p q) 0 q p zero-le b)
 
       pub made_block : block_of (made_blocks m d) q ≡ lowest_alike m d q
-      made_block = get_d_values n (lowest_alike m d) q l
+      made_block = get_or_values n (lowest_alike m d) q l
 
     -- two states have one lowest state exactly if they are never told apart
     module _ (p q : ℕ) (lp : p < n) (lq : q < n) where

@@ -183,7 +183,7 @@ module _ (limit : ℕ) (m : Monitor) (w : WellFormed limit m) where
       q_in : q < m.automaton.states
       q_in = state_in h.received (received_is_trace m.automaton (faults_of m set) (steps_good m.automaton set) h.fault)
 
-  -- ---- the clauses of demand 3, of a well_formed table
+  -- ---- the clauses of demand 3, of a well-formed table
 
   pub distance_exact : (d set : ℕ) → Distance m d set (distance m d set)
   distance_exact d set =

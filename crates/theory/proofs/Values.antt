@@ -45,22 +45,22 @@ filled_turn f area i l =
 pub filled_same : (f g : ℕ → ℕ) (area : List ℕ) {i n : ℕ} → i ≡ n → ((q : ℕ) → q < n → f q ≡ g q) → filled f area i ≡ filled g area n
 filled_same f g area {n = n} e h = ap (filled f area) e ∙ ap (λ (l : List ℕ). l ++ drop n area) (values_same n f g h)
 
-pub get_d_filled : (f : ℕ → ℕ) (rest : List ℕ) (n q : ℕ) → q < n → get_or (values n f ++ rest) q 0 ≡ f q
+pub get_or_filled : (f : ℕ → ℕ) (rest : List ℕ) (n q : ℕ) → q < n → get_or (values n f ++ rest) q 0 ≡ f q
 unfolding values
-get_d_filled f rest zero q l = absurd (not-suc-le-zero l)
-get_d_filled f rest (suc n) q l =
+get_or_filled f rest zero q l = absurd (not-suc-le-zero l)
+get_or_filled f rest (suc n) q l =
     ap (λ (xs : List ℕ). get_or xs q 0) (append_assoc (values n f) (f n ∷ []) rest)
     ∙ ⊎_elim
     (λ (e : q ≡ n). rw e (get_or_at (values n f) (f n) rest 0 n (length_values n f)))
-    (λ s. get_d_filled f (f n ∷ rest) n q s)
+    (λ s. get_or_filled f (f n ∷ rest) n q s)
     (eq-or-lt_of_le (le_of_suc-le-suc l))
 
-pub get_d_values : (n : ℕ) (f : ℕ → ℕ) (q : ℕ) → q < n → get_or (values n f) q 0 ≡ f q
-get_d_values n f q l = ap (λ (xs : List ℕ). get_or xs q 0) (sym (append-nil (values n f))) ∙ get_d_filled f [] n q l
+pub get_or_values : (n : ℕ) (f : ℕ → ℕ) (q : ℕ) → q < n → get_or (values n f) q 0 ≡ f q
+get_or_values n f q l = ap (λ (xs : List ℕ). get_or xs q 0) (sym (append-nil (values n f))) ∙ get_or_filled f [] n q l
 
 -- the first n of a list that was filled with values
 pub filled_read : (n : ℕ) (f : ℕ → ℕ) (rest : List ℕ) {l : List ℕ} → l ≡ values n f ++ rest → (q : ℕ) → q < n → get_or (take n l) q 0 ≡ f q
-filled_read n f rest {l} e q h = get_or-take n l q 0 h ∙ ap (λ (xs : List ℕ). get_or xs q 0) e ∙ get_d_filled f rest n q h
+filled_read n f rest {l} e q h = get_or-take n l q 0 h ∙ ap (λ (xs : List ℕ). get_or xs q 0) e ∙ get_or_filled f rest n q h
 
 pub filled_count : (n : ℕ) (f : ℕ → ℕ) (rest : List ℕ) {l : List ℕ} → l ≡ values n f ++ rest → n ≡ length (take n l)
 filled_count n f rest e = sym (ap (λ (xs : List ℕ). length (take n xs)) e ∙ ap length (take_at (values n f) rest n (length_values n f)) ∙ length_values n f)

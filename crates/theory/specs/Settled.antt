@@ -9,7 +9,7 @@ module _ (g : Automaton) (drawn : ℕ → ℕ) where
     pub number : ℕ
     pub ends : (w : List ℕ) → Trace g w → length w ≡ number → drawn (run g q w) ≡ v
 
-  -- "a not_yet state counts as true if [..]; false likewise": what the mark of q counts as
+  -- "a not-yet state counts as true if [..]; false likewise": what the mark of q counts as
   pub data CountsAs (q : ℕ) : ℕ → Type 0 where
     as_drawn : 0 < drawn q → CountsAs q (drawn q)
     settled_true : drawn q ≡ 0 → Settles 1 q → CountsAs q 1

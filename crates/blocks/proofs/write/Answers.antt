@@ -27,7 +27,8 @@ returns-in-Refused c =
     let b = a.body.now in
     let area = a.area.now in
     let whole =
-    refused_writes state_limit b (blocks_questions a.domain (length area) (monitor_of b)) (blocks_figures (monitor_of b)) (made_blocks (monitor_of b) a.domain)
+    refused_writes state_limit b (blocks_questions a.domain (length area) (monitor_of b)) (blocks_figures (monitor_of b))
+    (made_blocks (monitor_of b) a.domain)
     area (opened_no state_limit b _ c.«open».ensures c.in-Refused.is) in
     record { figures = whole.0; area = whole.1 }
 

@@ -25,7 +25,8 @@ misread c =
     (filled_read a.t.states (reading m a.domain) _ filled.ensures)
 
 pub returns-then-misread-n : goal.returns-then-misread-n
-returns-then-misread-n c = (let found = misread (goal.at.returns-then-misread-n c).After-first_disagreeing-misread in c.refused.ensures ∙ sym (rw (← found, less_apart c.if-misread-n.true, zero-add)))
+returns-then-misread-n c = (let found = misread (goal.at.returns-then-misread-n c).After-first_disagreeing-misread in c.refused.ensures
+    ∙ sym (rw (← found, less_apart c.if-misread-n.true, zero-add)))
 
 pub returns-then-torn-n : goal.returns-then-torn-n
 returns-then-torn-n c =

@@ -7,7 +7,8 @@ use Rattle.monitor.specs.Format.{automaton_of}
 use Rattle.certificate.proofs.step_alike.Given as goal
 
 abbrev pub invariant-loop-a : goal.invariant-loop-a
-invariant-loop-a l = Passed (λ b. not (same_block l.blocks ((automaton_of l.n l.k l.nexts).next l.p b) ((automaton_of l.n l.k l.nexts).next l.q b))) 0 l.k l.a
+invariant-loop-a l = Passed (λ b. not (same_block l.blocks ((automaton_of l.n l.k l.nexts).next l.p b) ((automaton_of l.n l.k l.nexts).next l.q b)))
+    0 l.k l.a
 
 abbrev pub decreases-loop-a : goal.decreases-loop-a
 decreases-loop-a l = l.k - l.a

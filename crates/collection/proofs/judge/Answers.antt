@@ -47,7 +47,8 @@ returns-then-len-lt2 c = c.refused.ensures ∙ sym (rw (lt-leb 2 _ c.if-len-lt2.
 pub returns-then-count-gt-ENTRY_LIMIT : goal.returns-then-count-gt-ENTRY_LIMIT
 unfolding collection_answer
 returns-then-count-gt-ENTRY_LIMIT c =
-    c.refused-then-count-gt-ENTRY_LIMIT.ensures ∙ sym (rw (le-leb 2 _ c.if-len-lt2.false, ← c.two_bytes_at-count.ensures.0, lt-leb _ 512 c.if-count-gt-ENTRY_LIMIT.true))
+    c.refused-then-count-gt-ENTRY_LIMIT.ensures
+    ∙ sym (rw (le-leb 2 _ c.if-len-lt2.false, ← c.two_bytes_at-count.ensures.0, lt-leb _ 512 c.if-count-gt-ENTRY_LIMIT.true))
 
 pub returns-then-len-count : goal.returns-then-len-count
 unfolding collection_answer
@@ -60,20 +61,30 @@ pub returns-then-unsorted-count : goal.returns-then-unsorted-count
 returns-then-unsorted-count c =
     let count = c.two_bytes_at-count.ensures.0 in
     let found = c.first_no-unsorted.ensures in
-    c.refused-then-unsorted-count.ensures ∙ sym (three (goal.at.returns-then-unsorted-count c).After-first_no-unsorted ∙ rw (found_one _ count found c.if-unsorted-count.true, found_at _ count found, zero-add))
+    c.refused-then-unsorted-count.ensures
+    ∙ sym (three (goal.at.returns-then-unsorted-count c).After-first_no-unsorted
+    ∙ rw (found_one _ count found c.if-unsorted-count.true, found_at _ count found, zero-add))
 
 pub returns-then-misplaced-count : goal.returns-then-misplaced-count
 returns-then-misplaced-count c =
     let count = c.two_bytes_at-count.ensures.0 in
     let found = c.first_no-misplaced.ensures in
-    c.refused-then-misplaced-count.ensures ∙ sym (four (goal.at.returns-then-misplaced-count c).After-first_no-misplaced (three (goal.at.returns-then-misplaced-count c).After-first_no-unsorted) ∙ rw (found_one _ count found c.if-misplaced-count.true, found_at _ count found, zero-add))
+    c.refused-then-misplaced-count.ensures
+    ∙ sym (four (goal.at.returns-then-misplaced-count c).After-first_no-misplaced
+    (three (goal.at.returns-then-misplaced-count c).After-first_no-unsorted)
+    ∙ rw (found_one _ count found c.if-misplaced-count.true, found_at _ count found, zero-add))
 
 pub returns-then-len-start_of_body : goal.returns-then-len-start_of_body
 returns-then-len-start_of_body c =
     let end = c.start_of_body.ensures ∙ ap (start_of_body c.args.file.now) c.two_bytes_at-count.ensures.0 in
-    c.refused-then-len-start_of_body.ensures ∙ sym (five (goal.at.returns-then-len-start_of_body c).After-start_of_body (four (goal.at.returns-then-len-start_of_body c).After-first_no-misplaced (three (goal.at.returns-then-len-start_of_body c).After-first_no-unsorted)) ∙ rw (← end, ne_eqb _ _ c.if-len-start_of_body.true))
+    c.refused-then-len-start_of_body.ensures
+    ∙ sym (five (goal.at.returns-then-len-start_of_body c).After-start_of_body
+    (four (goal.at.returns-then-len-start_of_body c).After-first_no-misplaced
+    (three (goal.at.returns-then-len-start_of_body c).After-first_no-unsorted)) ∙ rw (← end, ne_eqb _ _ c.if-len-start_of_body.true))
 
 pub returns : goal.returns
 returns c =
     let end = c.start_of_body.ensures ∙ ap (start_of_body c.args.file.now) c.two_bytes_at-count.ensures.0 in
-    sym (five (goal.at.returns c).After-start_of_body (four (goal.at.returns c).After-first_no-misplaced (three (goal.at.returns c).After-first_no-unsorted)) ∙ rw (← end, eq-eqb _ _ c.if-len-start_of_body.false, ← c.two_bytes_at-count.ensures.0))
+    sym (five (goal.at.returns c).After-start_of_body
+    (four (goal.at.returns c).After-first_no-misplaced (three (goal.at.returns c).After-first_no-unsorted))
+    ∙ rw (← end, eq-eqb _ _ c.if-len-start_of_body.false, ← c.two_bytes_at-count.ensures.0))

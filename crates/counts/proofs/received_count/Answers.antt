@@ -45,8 +45,11 @@ follow-one-requires c =
 
 pub follow-two-requires : goal.follow-two-requires
 follow-two-requires c =
-    let g = (monitor_in c.args.t c.args.marks c.args.nexts).automaton in
-    (c.requires.0, c.follow-one.ensures.inside, delivered_passes g c.args.fault.received c.requires.1.ranged.received_in (delivered (goal.at.follow-two-requires c).After-part))
+    let g = (monitor_in c.args.t c.args.marks c.args.nexts).automaton in (
+      c.requires.0,
+      c.follow-one.ensures.inside,
+      delivered_passes g c.args.fault.received c.requires.1.ranged.received_in (delivered (goal.at.follow-two-requires c).After-part),
+    )
 
 pub follow-three-requires : goal.follow-three-requires
 follow-three-requires c =

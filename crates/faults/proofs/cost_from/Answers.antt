@@ -16,7 +16,12 @@ cost_of-requires c =
     let l = c.requires.first_lt_k in
     let e = c.seconds_of-count.ensures in
     let h : c.loop-second.second < seconds (rank_of a.kind) a.k = omega (arith, c.loop-second-test.true, e) in
-    record { rows = c.requires.rows; p_lt_n = c.requires.p_lt_n; ranged = c.fault_of-fault.ensures.ranged a.k l (second_in (rank_of a.kind) l h); has_rows = c.requires.has_rows }
+    record {
+      rows = c.requires.rows;
+      p_lt_n = c.requires.p_lt_n;
+      ranged = c.fault_of-fault.ensures.ranged a.k l (second_in (rank_of a.kind) l h);
+      has_rows = c.requires.has_rows;
+    }
 
 pub loop-second-preserved : goal.loop-second-preserved
 loop-second-preserved c =

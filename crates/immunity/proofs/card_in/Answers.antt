@@ -30,7 +30,8 @@ unfolding card_answer judge_answer
 returns-in-Refused c =
     let b = c.args.body.now in
     let e = opened_no state_limit b _ c.«open».ensures c.in-Refused.is in
-    c.refused_card.ensures ∙ card_refuses (table_questions state_limit b) (monitor_of b) _ (λ A values. asks_refuses (table_questions state_limit b) [] values e)
+    c.refused_card.ensures ∙ card_refuses (table_questions state_limit b) (monitor_of b) _
+    (λ A values. asks_refuses (table_questions state_limit b) [] values e)
 
 pub returns-in-Table : goal.returns-in-Table
 unfolding card_answer judge_answer

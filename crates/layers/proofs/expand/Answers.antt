@@ -33,6 +33,14 @@ loop-a-preserved c =
     let few = pre.0.states_most in
     let closed = next_of_rows pre.0 in
     elim c.if-depths-x-ge-FAR.branch [
-      | then-depths-x-ge-FAR w ↦ rw (w.order-is, w.depths-is, w.count-is) (expanding_new g few pre.1 pre.2 pre.3 refl pre.4 closed at.invariant l x w.if-depths-x-ge-FAR.true)
-      | else-depths-x-ge-FAR w ↦ rw (w.order-is, w.depths-is, w.count-is) (expanding_old g few pre.1 pre.2 pre.3 refl pre.4 closed at.invariant l x w.if-depths-x-ge-FAR.false)
+      | then-depths-x-ge-FAR w ↦ rw (
+        w.order-is,
+        w.depths-is,
+        w.count-is,
+      ) (expanding_new g few pre.1 pre.2 pre.3 refl pre.4 closed at.invariant l x w.if-depths-x-ge-FAR.true)
+      | else-depths-x-ge-FAR w ↦ rw (
+        w.order-is,
+        w.depths-is,
+        w.count-is,
+      ) (expanding_old g few pre.1 pre.2 pre.3 refl pre.4 closed at.invariant l x w.if-depths-x-ge-FAR.false)
     ]

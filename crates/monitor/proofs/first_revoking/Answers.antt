@@ -13,10 +13,12 @@ row_in : (c : After-first_revoking_row-i)
 row_in c = (let r = c.requires in (row_end r c.loop-q-test.true, rows_most r))
 
 pub returns-then-i-q : goal.returns-then-i-q
-returns-then-i-q c = rows_stop _ _ c.loop-q.invariant (row_in (goal.at.returns-then-i-q c).After-first_revoking_row-i).0 c.first_revoking_row-i.ensures c.if-i-q.true
+returns-then-i-q c = rows_stop _ _ c.loop-q.invariant (row_in (goal.at.returns-then-i-q c).After-first_revoking_row-i).0
+    c.first_revoking_row-i.ensures c.if-i-q.true
 
 pub loop-q-preserved : goal.loop-q-preserved
-loop-q-preserved c = rows_go_on _ _ c.loop-q.invariant (row_in (goal.at.loop-q-preserved c).After-first_revoking_row-i).0 c.first_revoking_row-i.ensures c.if-i-q.false
+loop-q-preserved c = rows_go_on _ _ c.loop-q.invariant (row_in (goal.at.loop-q-preserved c).After-first_revoking_row-i).0
+    c.first_revoking_row-i.ensures c.if-i-q.false
 
 pub returns : goal.returns
 returns c = rows_end _ _ _ c.loop-q.invariant c.requires.rows_length c.loop-q-test.false

@@ -34,7 +34,8 @@ pub returns-then-next-nexts : goal.returns-then-next-nexts
 returns-then-next-nexts c =
     let nexts = c.next_states-nexts.ensures in
     c.refused-then-next-nexts.ensures
-    ∙ sym (six (goal.at.returns-then-next-nexts c).After-shared_slice_known-4-1 ∙ rw (← nexts, ← c.first_not_below-next.ensures, less_apart c.if-next-nexts.true))
+    ∙ sym (six (goal.at.returns-then-next-nexts c).After-shared_slice_known-4-1
+    ∙ rw (← nexts, ← c.first_not_below-next.ensures, less_apart c.if-next-nexts.true))
 
 pub first_revoking-revoking-requires : goal.first_revoking-revoking-requires
 first_revoking-revoking-requires c =
@@ -48,11 +49,14 @@ returns-then-revoking-nexts c =
     let nexts = c.next_states-nexts.ensures in
     let marks = c.drawn_marks-marks.ensures in
     c.refused-then-revoking-nexts.ensures
-    ∙ sym (seven (goal.at.returns-then-revoking-nexts c).After-first_revoking-revoking (six (goal.at.returns-then-revoking-nexts c).After-shared_slice_known-4-1) ∙ rw (← marks, ← nexts, ← c.first_revoking-revoking.ensures, less_apart c.if-revoking-nexts.true))
+    ∙ sym (seven (goal.at.returns-then-revoking-nexts c).After-first_revoking-revoking
+    (six (goal.at.returns-then-revoking-nexts c).After-shared_slice_known-4-1)
+    ∙ rw (← marks, ← nexts, ← c.first_revoking-revoking.ensures, less_apart c.if-revoking-nexts.true))
 
 pub returns : goal.returns
 returns c =
     let nexts = c.next_states-nexts.ensures in
     let marks = c.drawn_marks-marks.ensures in
     let found = c.first_revoking-revoking.ensures in
-    sym (seven (goal.at.returns c).After-first_revoking-revoking (six (goal.at.returns c).After-shared_slice_known-4-1) ∙ rw (← marks, ← nexts, ← found, all_passed _ found c.if-revoking-nexts.false))
+    sym (seven (goal.at.returns c).After-first_revoking-revoking (six (goal.at.returns c).After-shared_slice_known-4-1)
+    ∙ rw (← marks, ← nexts, ← found, all_passed _ found c.if-revoking-nexts.false))

@@ -7,7 +7,8 @@ use Rattle.pass.proofs.begin.Given as goal
 
 abbrev pub invariant-loop-at : goal.invariant-loop-at
 invariant-loop-at l =
-    Same l.initial.square l.initial.alike l.initial.fresh l.square l.alike l.fresh × Walking l.test l.outputs l.at l.square l.alike l.fresh (member l.rows)
+    Same l.initial.square l.initial.alike l.initial.fresh l.square l.alike l.fresh × Walking l.test l.outputs l.at l.square l.alike l.fresh
+    (member l.rows)
 
 abbrev pub decreases-loop-at : goal.decreases-loop-at
 decreases-loop-at l = l.n * l.n - l.at.number

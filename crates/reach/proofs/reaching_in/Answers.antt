@@ -8,4 +8,8 @@ pub returns : goal.returns
 returns c =
     let start = c in
     let closed = next_of_rows start.requires.0 in
-    let sets = c.enter_predecessors.ensures in record { one = joined_leads closed (member start.args.one) sets c.expand.ensures; other = joined_leads closed (member start.args.other) sets c.expand-2.ensures }
+    let sets = c.enter_predecessors.ensures in
+    record {
+      one = joined_leads closed (member start.args.one) sets c.expand.ensures;
+      other = joined_leads closed (member start.args.other) sets c.expand-2.ensures;
+    }

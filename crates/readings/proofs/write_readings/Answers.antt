@@ -41,7 +41,8 @@ returns c =
     let zeros = take a.t.states (replicate {A = ℕ} state_limit 0) in
     let most = c.requires.0.well_formed.states_most in
     c.copy-2.ensures
-    ∙ ap (λ (front : List ℕ). front ++ drop (length zeros) a.area.now) (sym (values_front zeros (length zeros) (le_refl (length zeros)) ∙ take-length zeros))
+    ∙ ap (λ (front : List ℕ). front ++ drop (length zeros) a.area.now) (sym (values_front zeros (length zeros) (le_refl (length zeros))
+    ∙ take-length zeros))
     ∙ filled_same (λ q. get_or zeros q 0) (reading m a.domain) a.area.now (sym (zeros_count a.t.states state_limit most))
     (λ q h. get_or-take a.t.states (replicate {A = ℕ} state_limit 0) q 0 h
     ∙ get_or-replicate {A = ℕ} state_limit q 0 0 (omega (arith, h, most))

@@ -14,9 +14,11 @@ use Rattle.refining.proofs.refine.Given as goal
 
 abbrev pub invariant-loop-c : goal.invariant-loop-c
 invariant-loop-c l =
-    (l.old ≤ l.c) × Same l.initial.square l.initial.numbers l.initial.members l.square l.numbers l.members × Partition l.n l.made l.square l.numbers l.members
+    (l.old ≤ l.c) × Same l.initial.square l.initial.numbers l.initial.members l.square l.numbers l.members × Partition l.n l.made l.square l.numbers
+    l.members
     × ((g : Automaton) (ends : ℕ → ℕ → Bool) → g.states ≡ l.n → g.symbols ≡ l.k → Closed g → Preceding g (λ p b. ltb p g.states) l.predecessors
-    → Alone l.n (member l.alone) l.initial.numbers → Refined g ends l.r l.old l.initial.square l.initial.numbers → Refining g ends l.r l.old l.count l.initial.square l.initial.numbers l.c l.made l.square l.numbers)
+    → Alone l.n (member l.alone) l.initial.numbers → Refined g ends l.r l.old l.initial.square l.initial.numbers → Refining g ends l.r l.old l.count
+    l.initial.square l.initial.numbers l.c l.made l.square l.numbers)
 
 abbrev pub decreases-loop-c : goal.decreases-loop-c
 decreases-loop-c l = l.count - l.c

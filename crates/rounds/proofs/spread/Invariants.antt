@@ -16,7 +16,8 @@ use Rattle.rounds.proofs.spread.Given as goal
 
 abbrev pub invariant-loop-all : goal.invariant-loop-all
 invariant-loop-all l =
-    Same l.initial.square l.initial.alike l.initial.next l.square l.alike l.next × (length l.fresh ≡ length l.initial.fresh) × (length l.active ≡ length l.initial.active)
+    Same l.initial.square l.initial.alike l.initial.next l.square l.alike l.next × (length l.fresh ≡ length l.initial.fresh) ×
+    (length l.active ≡ length l.initial.active)
     × ((g : Automaton) (ends : ℕ → ℕ → Bool) → g.states ≡ l.n → g.symbols ≡ l.k → Ground g ends l.predecessors → Empty g.states l.initial.next
     → Active g.states l.initial.alike l.initial.active → Layer g ends l.r l.initial.square l.initial.alike l.initial.fresh (member l.initial.left)
     → Spreading g ends l.r (member l.initial.left) (member l.left) l.initial.fresh l.fresh l.square l.alike l.next l.active (member l.found))

@@ -12,7 +12,8 @@ use Rattle.rounds.proofs.spread_block.Given as goal
 abbrev pub invariant-loop-a : goal.invariant-loop-a
 invariant-loop-a l =
     (l.a ≤ l.k) × Same l.initial.square l.initial.alike l.initial.next l.square l.alike l.next × (length l.active ≡ length l.initial.active)
-    × ((g : Automaton) → g.states ≡ l.n → g.symbols ≡ l.k → GoesAt g l.r l.x (member l.front) (block_done g l.x (is_part l.v) (is_part l.w) l.a) l.predecessors
+    × ((g : Automaton) → g.states ≡ l.n → g.symbols ≡ l.k → GoesAt g l.r l.x (member l.front) (block_done g l.x (is_part l.v) (is_part l.w) l.a)
+    l.predecessors
     l.initial.square l.initial.alike l.initial.next l.initial.active (member l.initial.found) l.square l.alike l.next l.active (member l.found))
 
 abbrev pub decreases-loop-a : goal.decreases-loop-a

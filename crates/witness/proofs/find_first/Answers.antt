@@ -37,7 +37,12 @@ returns-then-area-least c =
     let p = c.requires.1 in
     let closed = next_of_rows p.rows in
     let m = monitor_in c.args.t c.args.marks c.args.nexts in
-    let low = is_number closed p.squared p.start_in h c.if-least-eq-NEVER.false in record { figures = says_no_room closed p.squared p.start_in h (λ q. get_or c.args.outputs.now q 0) m (length c.args.area.now) low c.if-area-least.true; area = refl }
+    let low = is_number closed p.squared p.start_in h c.if-least-eq-NEVER.false in
+    record {
+      figures = says_no_room closed p.squared p.start_in h (λ q. get_or c.args.outputs.now q 0) m (length c.args.area.now) low
+          c.if-area-least.true;
+      area = refl;
+    }
 
 pub returns : goal.returns
 returns c =
@@ -47,4 +52,8 @@ returns c =
     let m = monitor_in c.args.t c.args.marks c.args.nexts in
     let low = is_number closed p.squared p.start_in h c.if-least-eq-NEVER.false in
     let fits = c.if-area-least.false in
-    let w = c.witness_of in record { figures = says_vulnerable closed p.squared p.start_in h (λ q. get_or c.args.outputs.now q 0) m (length c.args.area.now) low fits w.ensures.figures; area = witness_fills closed p.squared p.start_in h (some (witness_values w.result)) c.args.area.now low fits w.ensures.area }
+    let w = c.witness_of in record {
+      figures = says_vulnerable closed p.squared p.start_in h (λ q. get_or c.args.outputs.now q 0) m
+          (length c.args.area.now) low fits w.ensures.figures;
+      area = witness_fills closed p.squared p.start_in h (some (witness_values w.result)) c.args.area.now low fits w.ensures.area;
+    }

@@ -73,11 +73,20 @@ fault_with-fault-requires c =
 
 pub write_symbols-requires : goal.write_symbols-requires
 write_symbols-requires c =
-    let k = chosen (goal.at.write_symbols-requires c).After-fault_with-fault in record { symbols_in_bounds = made_fits _ (finds (goal.at.write_symbols-requires c).After-fault_with-fault) k c.args.area.now c.write_before-approach.ensures.area (fits (goal.at.write_symbols-requires c).After-fault_with-fault); inside = inside_wider k.ranged.sent_in c.requires.posed.rows.symbols_most }
+    let k = chosen (goal.at.write_symbols-requires c).After-fault_with-fault in
+    record {
+      symbols_in_bounds = made_fits _ (finds (goal.at.write_symbols-requires c).After-fault_with-fault) k c.args.area.now
+          c.write_before-approach.ensures.area (fits (goal.at.write_symbols-requires c).After-fault_with-fault);
+      inside = inside_wider k.ranged.sent_in c.requires.posed.rows.symbols_most;
+    }
 
 pub overflow_add-at : goal.overflow_add-at
 overflow_add-at c =
-    omega (arith, made_at _ (finds (goal.at.overflow_add-at c).After-fault_with-fault) (chosen (goal.at.overflow_add-at c).After-fault_with-fault), (chosen (goal.at.overflow_add-at c).After-fault_with-fault).low)
+    omega (
+      arith,
+      made_at _ (finds (goal.at.overflow_add-at c).After-fault_with-fault) (chosen (goal.at.overflow_add-at c).After-fault_with-fault),
+      (chosen (goal.at.overflow_add-at c).After-fault_with-fault).low,
+    )
 
 pub write_apart-end-requires : goal.write_apart-end-requires
 write_apart-end-requires c =
@@ -88,8 +97,10 @@ write_apart-end-requires c =
       squared_falls (next_of_rows c.requires.posed.rows) c.requires.posed.squared,
       p.inside,
       q.inside,
-      made_apart _ (finds (goal.at.write_apart-end-requires c).After-fault_with-fault) (chosen (goal.at.write_apart-end-requires c).After-fault_with-fault) p.run q.run,
-      made_fits_on _ (finds (goal.at.write_apart-end-requires c).After-fault_with-fault) (chosen (goal.at.write_apart-end-requires c).After-fault_with-fault) c.args.area.now c.write_before-approach.ensures.area
+      made_apart _ (finds (goal.at.write_apart-end-requires c).After-fault_with-fault)
+          (chosen (goal.at.write_apart-end-requires c).After-fault_with-fault) p.run q.run,
+      made_fits_on _ (finds (goal.at.write_apart-end-requires c).After-fault_with-fault)
+          (chosen (goal.at.write_apart-end-requires c).After-fault_with-fault) c.args.area.now c.write_before-approach.ensures.area
           c.write_symbols.ensures p.run q.run (fits (goal.at.write_apart-end-requires c).After-fault_with-fault),
     )
 
@@ -98,8 +109,10 @@ returns c =
     let p = c.after-p.ensures.run in
     let q = c.after-q.ensures.run in
     let e = c.write_apart-end.ensures in record {
-      series = λ z i. made_makes _ (finds (goal.at.returns c).After-fault_with-fault) (chosen (goal.at.returns c).After-fault_with-fault) c.args.outputs.now (ready_left c.requires c.enter_totals.ensures)
+      series = λ z i. made_makes _ (finds (goal.at.returns c).After-fault_with-fault) (chosen (goal.at.returns c).After-fault_with-fault)
+          c.args.outputs.now (ready_left c.requires c.enter_totals.ensures)
           i p q e.sent.0 e.received.0;
-      area = λ z i. made_written _ (finds (goal.at.returns c).After-fault_with-fault) (chosen (goal.at.returns c).After-fault_with-fault) c.args.area.now i c.write_before-approach.ensures.area
+      area = λ z i. made_written _ (finds (goal.at.returns c).After-fault_with-fault) (chosen (goal.at.returns c).After-fault_with-fault)
+          c.args.area.now i c.write_before-approach.ensures.area
           c.write_symbols.ensures p q e.area;
     }

@@ -35,7 +35,9 @@ three : (c : After-total)
 three c left = left ∙ rw (found_none _ refl c.first_not_rising-unsorted.ensures c.if-unsorted-count.false)
 
 pub returns-then-total-bodies : goal.returns-then-total-bodies
-returns-then-total-bodies c = c.refused-then-total-bodies.ensures ∙ sym (three (goal.at.returns-then-total-bodies c).After-total (two (goal.at.returns-then-total-bodies c).After-first_not_rising-unsorted) ∙ rw (← c.total.ensures, ne_eqb _ _ c.if-total-bodies.true))
+returns-then-total-bodies c = c.refused-then-total-bodies.ensures
+    ∙ sym (three (goal.at.returns-then-total-bodies c).After-total (two (goal.at.returns-then-total-bodies c).After-first_not_rising-unsorted)
+    ∙ rw (← c.total.ensures, ne_eqb _ _ c.if-total-bodies.true))
 
 pub returns : goal.returns
 returns c =
@@ -43,4 +45,5 @@ returns c =
     let same = sym c.if-count-lengths.false in
     c.judge_bodies.ensures
     ∙ ap (λ (n : ℕ). asks (bodies_questions state_limit a.lengths.now a.bodies.now n) no_values) same
-    ∙ sym (three (goal.at.returns c).After-total (two (goal.at.returns c).After-first_not_rising-unsorted) ∙ rw (← c.total.ensures, eq-eqb _ _ c.if-total-bodies.false))
+    ∙ sym (three (goal.at.returns c).After-total (two (goal.at.returns c).After-first_not_rising-unsorted)
+    ∙ rw (← c.total.ensures, eq-eqb _ _ c.if-total-bodies.false))

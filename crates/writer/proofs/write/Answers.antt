@@ -29,12 +29,14 @@ returns-in-Refused c =
 pub returns-then-area-length : goal.returns-then-area-length
 returns-then-area-length c =
     let a = c.args in
-    let e = write_short state_limit a.rules.now a.lengths.now a.bodies.now _ (fits (goal.at.returns-then-area-length c).In-Accepted) (passed (goal.at.returns-then-area-length c).In-Accepted) c.if-area-length.true in
+    let e = write_short state_limit a.rules.now a.lengths.now a.bodies.now _ (fits (goal.at.returns-then-area-length c).In-Accepted)
+    (passed (goal.at.returns-then-area-length c).In-Accepted) c.if-area-length.true in
     record { figures = e; area = untouched (file_of a.rules.now a.lengths.now a.bodies.now) a.area.now (sym e) }
 
 pub returns : goal.returns
 returns c =
     let a = c.args in
     let room = c.if-area-length.false in
-    let e = write_answered state_limit a.rules.now a.lengths.now a.bodies.now _ (fits (goal.at.returns c).In-Accepted) (passed (goal.at.returns c).In-Accepted) room in
+    let e = write_answered state_limit a.rules.now a.lengths.now a.bodies.now _ (fits (goal.at.returns c).In-Accepted)
+    (passed (goal.at.returns c).In-Accepted) room in
     record { figures = e; area = c.put_file.ensures ∙ written_over (file_of a.rules.now a.lengths.now a.bodies.now) a.area.now (sym e) }

@@ -15,12 +15,23 @@ returns-then-second-seconds_of c =
     let a = c.args in
     let p = c.requires.placed_here in
     let e = known a.k c.seconds_of.ensures (ranked c.kind_at.ensures c.requires.rank_lt_kinds) in
-    record { rest = next_second a.set.bits a.k a.self c.requires.rank_lt_kinds p; placed = record { first_in = p.first_in; second_in = λ _. omega (arith, e, c.if-second-seconds_of.true) } }
+    record {
+      rest = next_second a.set.bits a.k a.self c.requires.rank_lt_kinds p;
+      placed = record { first_in = p.first_in; second_in = λ _. omega (arith, e, c.if-second-seconds_of.true) };
+    }
 
 pub returns-then-first-k : goal.returns-then-first-k
 returns-then-first-k c =
     let a = c.args in
-    let e = known a.k c.seconds_of.ensures (ranked c.kind_at.ensures c.requires.rank_lt_kinds) in record { rest = next_first a.set.bits a.k a.self c.requires.rank_lt_kinds c.requires.placed_here (omega (arith, e, c.if-second-seconds_of.false)) c.if-first-k.true; placed = record { first_in = c.if-first-k.true; second_in = λ low. second_some a.self.rank low (omega (arith, c.if-first-k.true)) } }
+    let e = known a.k c.seconds_of.ensures (ranked c.kind_at.ensures c.requires.rank_lt_kinds) in
+    record {
+      rest = next_first a.set.bits a.k a.self c.requires.rank_lt_kinds c.requires.placed_here (omega (
+        arith,
+        e,
+        c.if-second-seconds_of.false,
+      )) c.if-first-k.true;
+      placed = record { first_in = c.if-first-k.true; second_in = λ low. second_some a.self.rank low (omega (arith, c.if-first-k.true)) };
+    }
 
 pub returns : goal.returns
 returns c =

@@ -14,7 +14,12 @@ loop-rank-preserved c =
     let l = c.loop-rank-test.true in (
       search rules,
       elim c.if-has_bit.branch [
-        | then-has_bit w ↦ rw (w.set-is, w.with-set.ensures, bit_is, ranked w.kind_at.ensures l) (below_with number at.rank at.invariant.1 (has ∙ w.if-has_bit.true))
+        | then-has_bit w ↦ rw (
+          w.set-is,
+          w.with-set.ensures,
+          bit_is,
+          ranked w.kind_at.ensures l,
+        ) (below_with number at.rank at.invariant.1 (has ∙ w.if-has_bit.true))
         | else-has_bit w ↦ rw w.set-is (below_without number at.rank at.invariant.1 (has ∙ w.if-has_bit.false))
       ],
     )
