@@ -1,7 +1,7 @@
 """A model of tables and witnesses, written from the specification alone, and the way to ask the built program `probe`.
 
-The model shares nothing with the library but the byte format. Run the tests that use it after `rt ci` or
-`rt check probe`, at the root.
+The model shares nothing with the library but the byte format. Run the tests that use it after `make test` or
+`make target/bin/probe`, at the root.
 """
 import collections
 import functools

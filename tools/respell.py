@@ -7,7 +7,8 @@ or a capital within, wherever that name stands in a file of specs/ or proofs/, i
 it. Types and modules, names of src/ outside clauses, strings, and the names of goals keep their spelling. Where a lemma
 would fall together with a definition, it gets the ending `_lem`; the table below lists these.
 
-With --list it prints what it would rename and changes nothing.
+With --list it prints what it would rename and changes nothing. Where it has run already it does nothing, since two
+of the names below stand for a definition then.
 """
 import collections
 import glob
@@ -114,10 +115,14 @@ def respell_source(text, table):
 
 def main():
     table, names, library = renaming()
-    if "--list" in sys.argv:
+    if "stateLimit" not in names:
+        sys.exit("respell: the names are in snake case already")
+    if sys.argv[1:] == ["--list"]:
         for name in sorted(table):
             print(name, table[name])
         return
+    if sys.argv[1:]:
+        sys.exit("usage: respell.py [--list]")
     for path in proof_files():
         text = open(path, encoding="utf-8").read()
         new = respell(text, table)
