@@ -306,7 +306,8 @@ fn judge_agreement(marks: &[u8], nexts: &[u8], t: Shape, domain: usize, blocks: 
     let read = &outputs[..n];
     let lowest = lowest_states(blocks);
     let misread = first_disagreeing(Agreement::Readings, read, nexts, n, k, blocks, &lowest);
-    if misread < n {
+    let is_misread = misread < n;
+    if is_misread {
         return monitor::refused(16, misread);
     }
     let torn = first_disagreeing(Agreement::Steps, read, nexts, n, k, blocks, &lowest);

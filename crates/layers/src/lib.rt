@@ -45,7 +45,8 @@ fn expand(
     let mut a = 0;
     while a < k {
         let x = monitor::successor(nexts, n, k, p, a);
-        if depths[x] >= FAR {
+        let is_new = depths[x] >= FAR;
+        if is_new {
             depths[x] = depth;
             order[count] = x as u8;
             count += 1;

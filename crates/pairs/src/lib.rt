@@ -42,7 +42,7 @@ fn enter_rounds(
     let mut active = [ALL; WORDS * WORDS];
     let mut rows = pass::begin(square, alike, fresh, outputs, all, test);
     let mut r = 0u16;
-    while !state_set::is_empty(rows) {
+    'rounds: while !state_set::is_empty(rows) {
         let found = rounds::spread(
             square,
             alike,

@@ -24,18 +24,18 @@ misread c =
     ∙ readings_place m a.domain m.automaton (take a.t.states filled.new.area) a.blocks.now a.t.states
     (filled_read a.t.states (reading m a.domain) _ filled.ensures)
 
-pub returns-then-misread-n : goal.returns-then-misread-n
-returns-then-misread-n c = (let found = misread (goal.at.returns-then-misread-n c).After-first_disagreeing-misread in c.refused.ensures
-    ∙ sym (rw (← found, less_apart c.if-misread-n.true, zero-add)))
+pub returns-then-is_misread : goal.returns-then-is_misread
+returns-then-is_misread c = (let found = misread (goal.at.returns-then-is_misread c).After-first_disagreeing-misread in c.refused.ensures
+    ∙ sym (rw (← found, less_apart c.if-is_misread.true, zero-add)))
 
 pub returns-then-torn-n : goal.returns-then-torn-n
 returns-then-torn-n c =
     let found = misread (goal.at.returns-then-torn-n c).After-first_disagreeing-misread in
     c.refused-then-torn-n.ensures
-    ∙ sym (rw (← found, all_passed _ found c.if-misread-n.false, ← c.first_disagreeing-torn.ensures, less_apart c.if-torn-n.true, zero-add))
+    ∙ sym (rw (← found, all_passed _ found c.if-is_misread.false, ← c.first_disagreeing-torn.ensures, less_apart c.if-torn-n.true, zero-add))
 
 pub returns : goal.returns
 returns c =
     let found = misread (goal.at.returns c).After-first_disagreeing-misread in
     let torn = c.first_disagreeing-torn.ensures in
-    sym (rw (← found, all_passed _ found c.if-misread-n.false, ← torn, all_passed _ torn c.if-torn-n.false))
+    sym (rw (← found, all_passed _ found c.if-is_misread.false, ← torn, all_passed _ torn c.if-torn-n.false))

@@ -32,8 +32,8 @@ few n m l =
     let s : n * n ≤ square_size = mul-le-mul m m in
     omega (arith, s, l)
 
-pub loop-all-init : goal.loop-all-init
-loop-all-init c =
+pub rounds-init : goal.rounds-init
+rounds-init c =
     let p = c.requires in
     let b = c.begin-rows.ensures in
     let layer = begun_layer p.3 b in (
@@ -52,10 +52,10 @@ loop-all-init c =
       active_first layer p.2.states_most _ (full (2 ^ 64 - 1)),
     )
 
-pub loop-all-preserved : goal.loop-all-preserved
-loop-all-preserved c =
-    let at = c.loop-all in
-    let fresh = empty_some state_limit _ c.is_empty.ensures c.loop-all-test.true in
+pub rounds-preserved : goal.rounds-preserved
+rounds-preserved c =
+    let at = c.rounds in
+    let fresh = empty_some state_limit _ c.is_empty.ensures c.rounds-test.true in
     let early = layer_early at.invariant.2 at.invariant.1.closed fresh.0 fresh.2 in
     let g = automaton_of c.args.n c.args.k c.args.nexts.now in
     let once = c.spread-found.ensures g _ refl refl at.invariant.1 at.invariant.3 at.invariant.7 at.invariant.2 in
@@ -75,9 +75,9 @@ loop-all-preserved c =
 pub returns : goal.returns
 returns c =
     let p = c.requires in
-    let at = c.loop-all in
+    let at = c.rounds in
     let small = p.2.states_most in
-    let none = empty_none state_limit _ c.is_empty.ensures c.loop-all-test.false in
+    let none = empty_none state_limit _ c.is_empty.ensures c.rounds-test.false in
     let l = few _ small at.invariant.0 in
     squared_same (next_of_rows p.2) (begun_passing p.3 c.begin-rows.ensures)
     (layer_last at.invariant.2 (next_of_rows p.2) (λ p lp. none p (omega (arith, lp, small))) (omega (arith, l)))
