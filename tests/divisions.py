@@ -12,7 +12,6 @@ WANTED = {
     "crates/faults/src/lib.rt": [">> rank", "& 1"],
     "crates/pack/src/main.rt": ["% 2", "/ 2"],
     "crates/state_set/src/lib.rt": [">> q", "& 1", ">> q", "& 1"],
-    "crates/writer/src/lib.rt": ["% 256", "/ 256"],
 }
 
 # What is no code, or code that is never run: comments, texts and single characters, and contracts, from their word to the

@@ -9,7 +9,7 @@ use lib.ListN.{length, get_or, drop}
 use lib.Seq.{drop-cons, drop-length}
 use lib.Dec.{leb}
 use borrow.Author.Tests.{lt-ltb, leb-true}
-use Rattle.arguments.specs.declared.Decimal.TheVariants.{NotANumber, Number}
+use Rattle.std.proofs.Common.{Some, None}
 use Rattle.arguments.specs.Numbers.{is_digit, are_digits, value_from, cap, decimal_of}
 
 -- a number that stands before the text counts up to a cap only
@@ -61,18 +61,18 @@ reads_digit {text} {i} {n} {m} r l d e = record {
 }
 
 -- the text ends before its first byte
-pub reads_empty : (text : List ℕ) → length text ≡ 0 → NotANumber ≡ decimal_of text
+pub reads_empty : (text : List ℕ) → length text ≡ 0 → None ≡ decimal_of text
 unfolding are_digits decimal_of
 reads_empty [] e = refl
 reads_empty (byte ∷ text) e = absurd (omega arith)
 
 -- the next byte is no digit
-pub reads_other : {text : List ℕ} {i n : ℕ} → Reads text i n → i < length text → is_digit (get_or text i 0) ≡ false → NotANumber ≡ decimal_of text
+pub reads_other : {text : List ℕ} {i n : ℕ} → Reads text i n → i < length text → is_digit (get_or text i 0) ≡ false → None ≡ decimal_of text
 unfolding decimal_of
 reads_other {text} {i} r l d = rw (next_digit r l, d) refl
 
 -- nothing is left
-pub reads_all : {text : List ℕ} {i n : ℕ} → Reads text i n → 0 < length text → length text ≤ i → Number n ≡ decimal_of text
+pub reads_all : {text : List ℕ} {i n : ℕ} → Reads text i n → 0 < length text → length text ≤ i → Some n ≡ decimal_of text
 unfolding are_digits value_from decimal_of
 reads_all {text} {i} {n} r l e =
     let at : i ≡ length text = omega (arith, r.within) in

@@ -1,9 +1,6 @@
 -- Decimal numbers as text. A text is any list of numbers, whether or not they are bytes.
-use Rattle.std.specs.Prelude.{Bool, true, ◌&&◌, cond, List, [], ◌∷◌, ℕ, ◌+◌, ◌-◌, ◌*◌, min, leb, ltb, length}
-use Rattle.arguments.specs.declared.Decimal.{Decimal}
-use Rattle.arguments.specs.declared.Decimal.TheVariants.{NotANumber, Number}
-use Rattle.arguments.specs.declared.TwoBytes.{TwoBytes}
-use Rattle.arguments.specs.declared.TwoBytes.TheVariants as two
+use Rattle.std.specs.Prelude.{Bool, true, Option, None, Some, ◌&&◌, cond, List, [], ◌∷◌, ℕ, ◌+◌, ◌-◌, ◌*◌, min, leb}
+use Rattle.std.specs.Prelude.{ltb, length}
 
 -- the byte is one of the digits 0 to 9
 abbrev pub is_digit : ℕ → Bool
@@ -25,10 +22,10 @@ cap = 1000000000000000000
 
 -- no number for the empty text and for one with another byte than a digit; else the smaller of the number that the
 -- digits stand for and the cap
-unfoldable pub decimal_of : List ℕ → Decimal
-decimal_of text = cond (are_digits text && ltb 0 (length text)) (Number (min (value_from 0 text) cap)) NotANumber
+unfoldable pub decimal_of : List ℕ → Option ℕ
+decimal_of text = cond (are_digits text && ltb 0 (length text)) (Some (min (value_from 0 text) cap)) None
 
 -- the number where it has two bytes at most
-abbrev pub two_bytes_of : Decimal → TwoBytes
-two_bytes_of NotANumber = two.Other
-two_bytes_of (Number n) = cond (ltb n 65536) (two.Number n) two.Other
+abbrev pub two_bytes_of : Option ℕ → Option ℕ
+two_bytes_of None = None
+two_bytes_of (Some n) = cond (ltb n 65536) (Some n) None

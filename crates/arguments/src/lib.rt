@@ -2,7 +2,7 @@
 #![tactic(auto)]
 
 ghost use Rattle.std.specs.Prelude.{◌≡◌, ◌≤◌, length};
-ghost use Rattle.arguments.specs.Numbers.{is_digit, decimal_of, two_bytes_of};
+ghost use Rattle.arguments.specs.Numbers.{decimal_of, two_bytes_of};
 
 use std::env::{Env, FillError};
 
@@ -13,59 +13,29 @@ const CAP: usize = 1_000_000_000_000_000_000;
 // A space of as many bytes holds every argument that Linux hands over.
 pub const ROOM: usize = 131072;
 
-#[derive(Drop)]
-pub enum Decimal {
-    NotANumber,
-    Number(usize),
-}
-
-// A number of two bytes.
-#[derive(Drop)]
-pub enum TwoBytes {
-    Other,
-    Number(u16),
-}
-
-fn is_digit(byte: u8) -> bool
-    ensures { result ≡ is_digit byte }
-{
-    if byte < b'0' {
-        return false;
-    }
-    byte <= b'9'
-}
-
 // The number that a text stands for, at most the cap: one decimal digit or more, and nothing else.
-pub fn read_decimal(text: &[u8]) -> Decimal
+pub fn read_decimal(text: &[u8]) -> Option<usize>
     ensures { result ≡ decimal_of text.now }
 {
-    if text.len() == 0 {
-        return Decimal::NotANumber;
+    if text.is_empty() {
+        return None;
     }
     let mut number = 0;
-    let mut i = 0;
-    while i < text.len() {
-        if !is_digit(text[i]) {
-            return Decimal::NotANumber;
+    for byte in text {
+        if !byte.is_ascii_digit() {
+            return None;
         }
-        let digit = (text[i] - b'0') as usize;
+        let digit = (*byte - b'0') as usize;
         number = basics::least_of(10 * number + digit, CAP);
-        i += 1;
     }
-    Decimal::Number(number)
+    Some(number)
 }
 
 // The number that a text stands for where it has two bytes at most; a greater one is none, it is never cut.
-fn read_two_bytes(text: &[u8]) -> TwoBytes
+fn read_two_bytes(text: &[u8]) -> Option<u16>
     ensures { result ≡ two_bytes_of (decimal_of text.now) }
 {
-    let Decimal::Number(number) = read_decimal(text) else {
-        return TwoBytes::Other;
-    };
-    if number < 65536 {
-        return TwoBytes::Number(number as u16);
-    }
-    TwoBytes::Other
+    u16::try_from(read_decimal(text)?).ok()
 }
 
 // How many arguments the program has. Its name is one of them.
@@ -88,44 +58,84 @@ pub fn text_at(rt: &impl Env, i: usize, space: &mut [u8]) -> usize
 
 // The program's argument i, read into a space that is lent, as a number. One that is missing, or longer than the space,
 // is none.
-pub fn number_at(rt: &impl Env, i: usize, space: &mut [u8]) -> Decimal {
+pub fn number_at(rt: &impl Env, i: usize, space: &mut [u8]) -> Option<usize> {
     let length = text_at(rt, i, space);
     read_decimal(&space[..length])
 }
 
 // The same as a number of two bytes.
-fn two_bytes_at(rt: &impl Env, i: usize, space: &mut [u8]) -> TwoBytes {
+fn two_bytes_at(rt: &impl Env, i: usize, space: &mut [u8]) -> Option<u16> {
     let length = text_at(rt, i, space);
     read_two_bytes(&space[..length])
 }
 
-// Fills the list with the arguments from `first` on, each `step` behind the one before. Answers whether all are numbers
-// of two bytes.
+// Fills the list with the arguments from `first` on, each `step` behind the one before, if all are numbers of two
+// bytes.
 pub fn fill_two_bytes(
     rt: &impl Env,
     list: &mut [u16],
     first: usize,
     step: usize,
     space: &mut [u8],
-) -> bool
+) -> Option<()>
     requires { (first ≤ 4294967296)
         × (step ≤ 2) }
 {
-    let mut at = first;
-    let mut i = 0;
-    while i < list.len() {
-        let TwoBytes::Number(number) = two_bytes_at(rt, at, space) else {
-            return false;
-        };
-        list[i] = number;
-        at += step;
-        i += 1;
+    for (i, number) in list.iter_mut().enumerate() {
+        *number = two_bytes_at(rt, first + i * step, space)?;
     }
-    true
+    Some(())
 }
 
 // Whether the program's argument i, read likewise, is this word.
 pub fn is_word(rt: &impl Env, i: usize, word: &[u8], space: &mut [u8]) -> bool {
     let length = text_at(rt, i, space);
-    check::same(&space[..length], word)
+    &space[..length] == word
+}
+
+// The program's arguments from `next` on, read one after the other into a space that is lent.
+#[derive(Drop)]
+pub struct Rest<'r, 's, R> {
+    rt: &'r R,
+    space: &'s mut [u8],
+    pub next: usize,
+    end: usize,
+}
+
+impl<'r, 's, R: Env> Rest<'r, 's, R> {
+    pub fn new(rt: &'r R, space: &'s mut [u8], next: usize) -> Self {
+        let end = count(rt);
+        Rest {
+            rt,
+            space,
+            next,
+            end,
+        }
+    }
+
+    // How many are left.
+    pub fn count(&self) -> usize {
+        self.end.saturating_sub(self.next)
+    }
+
+    // The next argument, if one is left.
+    pub fn text(&mut self) -> Option<&[u8]> {
+        let at = self.next;
+        if at >= self.end {
+            return None;
+        }
+        self.next += 1;
+        let length = text_at(self.rt, at, self.space);
+        Some(&self.space[..length])
+    }
+
+    // The next argument, if it is a number.
+    pub fn number(&mut self) -> Option<usize> {
+        read_decimal(self.text()?)
+    }
+
+    // Leaves out all that are left.
+    pub fn skip(&mut self) {
+        self.next = self.end;
+    }
 }

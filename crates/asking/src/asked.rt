@@ -1,11 +1,6 @@
 // What the arguments ask.
-ghost use Rattle.std.specs.Prelude.{◌≤◌};
-
-use arguments::Decimal;
+use arguments::Rest;
 use std::env::Env;
-
-// The byte @, which begins the argument that names a file.
-const FILE_SIGN: usize = 64;
 
 // The first argument behind `write` and its room.
 pub const LISTS: usize = 3;
@@ -19,11 +14,11 @@ pub enum Subject {
     Collection,
 }
 
-// Where the messages of a trace are, or the blocks of a proof: the last arguments, so many; or the bytes of the file
-// that an argument names.
+// Where the messages of a trace are, or the blocks of a proof: the arguments from one on, or the bytes of the file that
+// an argument names.
 #[derive(Clone, Copy)]
 pub enum Source {
-    Arguments(usize),
+    Arguments { first: usize },
     File { argument: usize },
 }
 
@@ -65,7 +60,7 @@ pub enum Form {
     },
 }
 
-#[derive(Drop)]
+#[derive(Clone, Copy)]
 pub enum Asked {
     Help,
     Why {
@@ -80,11 +75,10 @@ pub enum Asked {
         rules: usize,
         lengths: usize,
     },
-    Unclear,
 }
 
 // The words that begin a question or a form.
-#[derive(Drop)]
+#[derive(Clone, Copy)]
 enum Word {
     Help,
     Why,
@@ -100,359 +94,137 @@ enum Word {
     Trust,
     Proof,
     Blocks,
-    Other,
 }
 
-fn form_word(text: &[u8]) -> Word {
-    if check::same(text, b"judge") {
-        return Word::Judge;
-    }
-    if check::same(text, b"classes") {
-        return Word::Classes;
-    }
-    if check::same(text, b"step") {
-        return Word::Step;
-    }
-    if check::same(text, b"trace") {
-        return Word::Trace;
-    }
-    if check::same(text, b"fault") {
-        return Word::Fault;
-    }
-    if check::same(text, b"trust") {
-        return Word::Trust;
-    }
-    if check::same(text, b"proof") {
-        return Word::Proof;
-    }
-    if check::same(text, b"blocks") {
-        return Word::Blocks;
-    }
-    Word::Other
-}
-
-fn word_of(text: &[u8]) -> Word {
-    if check::same(text, b"--help") {
-        return Word::Help;
-    }
-    if check::same(text, b"why") {
-        return Word::Why;
-    }
-    if check::same(text, b"rule") {
-        return Word::Rule;
-    }
-    if check::same(text, b"collection") {
-        return Word::Collection;
-    }
-    if check::same(text, b"write") {
-        return Word::Write;
-    }
-    if check::same(text, b"body") {
-        return Word::Body;
-    }
-    form_word(text)
-}
-
-fn word_at(rt: &impl Env, i: usize, space: &mut [u8]) -> Word {
-    let length = arguments::text_at(rt, i, space);
-    word_of(&space[..length])
-}
-
-fn judge_asked(subject: Subject, behind: usize) -> Asked {
-    if behind != 0 {
-        return Asked::Unclear;
-    }
-    let form = Form::Judge;
-    Asked::Form { subject, form }
-}
-
-// The number of a question that has one. Here and below, numbers are the arguments from `at` on, and `behind` is how
-// many arguments stand there.
-fn only_number(rt: &impl Env, at: usize, behind: usize, space: &mut [u8]) -> Decimal {
-    if behind != 1 {
-        return Decimal::NotANumber;
-    }
-    arguments::number_at(rt, at, space)
-}
-
-fn classes_asked(subject: Subject, number: Decimal) -> Asked {
-    let Decimal::Number(room) = number else {
-        return Asked::Unclear;
-    };
-    let form = Form::Classes { room };
-    Asked::Form { subject, form }
-}
-
-fn blocks_asked(subject: Subject, number: Decimal) -> Asked {
-    let Decimal::Number(domain) = number else {
-        return Asked::Unclear;
-    };
-    let form = Form::Blocks { domain };
-    Asked::Form { subject, form }
-}
-
-// Whether an argument is @ and a name behind it.
-fn names_file(rt: &impl Env, at: usize, space: &mut [u8]) -> bool {
-    let length = arguments::text_at(rt, at, space);
-    if length < 2 {
-        return false;
-    }
-    basics::byte_at(space, 0) == FILE_SIGN
-}
-
-// What so many arguments from `at` on stand for: a file, if there is one argument and it names one.
-fn source_asked(rt: &impl Env, at: usize, count: usize, space: &mut [u8]) -> Source {
-    if count != 1 {
-        return Source::Arguments(count);
-    }
-    if names_file(rt, at, space) {
-        return Source::File { argument: at };
-    }
-    Source::Arguments(count)
-}
-
-// A reading, and behind it the messages or the blocks.
-#[derive(Drop)]
-enum Sourced {
-    Domain { domain: usize, source: Source },
-    Unclear,
-}
-
-fn domain_and_source(rt: &impl Env, at: usize, behind: usize, space: &mut [u8]) -> Sourced
-    requires { at ≤ 5 }
-{
-    if behind == 0 {
-        return Sourced::Unclear;
-    }
-    let Decimal::Number(domain) = arguments::number_at(rt, at, space) else {
-        return Sourced::Unclear;
-    };
-    let source = source_asked(rt, at + 1, behind - 1, space);
-    Sourced::Domain { domain, source }
-}
-
-fn trace_asked(subject: Subject, given: Sourced) -> Asked {
-    let Sourced::Domain { domain, source } = given else {
-        return Asked::Unclear;
-    };
-    let form = Form::Trace { domain, source };
-    Asked::Form { subject, form }
-}
-
-fn proof_asked(rt: &impl Env, subject: Subject, at: usize, behind: usize, space: &mut [u8]) -> Asked
-    requires { at ≤ 4 }
-{
-    if behind == 0 {
-        return Asked::Unclear;
-    }
-    let Decimal::Number(set) = arguments::number_at(rt, at, space) else {
-        return Asked::Unclear;
-    };
-    let Sourced::Domain { domain, source } = domain_and_source(rt, at + 1, behind - 1, space) else {
-        return Asked::Unclear;
-    };
-    let form = Form::Proof {
-        set,
-        domain,
-        source,
-    };
-    Asked::Form { subject, form }
-}
-
-// Three numbers, for the forms that have as many and for the first of four.
-#[derive(Drop)]
-enum Numbers {
-    Three {
-        first: usize,
-        second: usize,
-        third: usize,
-    },
-    Unclear,
-}
-
-// The three arguments from this one on.
-fn three_numbers(rt: &impl Env, at: usize, space: &mut [u8]) -> Numbers
-    requires { at ≤ 4 }
-{
-    let Decimal::Number(first) = arguments::number_at(rt, at, space) else {
-        return Numbers::Unclear;
-    };
-    let Decimal::Number(second) = arguments::number_at(rt, at + 1, space) else {
-        return Numbers::Unclear;
-    };
-    let Decimal::Number(third) = arguments::number_at(rt, at + 2, space) else {
-        return Numbers::Unclear;
-    };
-    Numbers::Three {
-        first,
-        second,
-        third,
+fn word_of(text: &[u8]) -> Option<Word> {
+    match text {
+        b"--help" => Some(Word::Help),
+        b"why" => Some(Word::Why),
+        b"rule" => Some(Word::Rule),
+        b"collection" => Some(Word::Collection),
+        b"write" => Some(Word::Write),
+        b"body" => Some(Word::Body),
+        b"judge" => Some(Word::Judge),
+        b"classes" => Some(Word::Classes),
+        b"step" => Some(Word::Step),
+        b"trace" => Some(Word::Trace),
+        b"fault" => Some(Word::Fault),
+        b"trust" => Some(Word::Trust),
+        b"proof" => Some(Word::Proof),
+        b"blocks" => Some(Word::Blocks),
+        _ => None,
     }
 }
 
-// The same where they are the last.
-fn last_three(rt: &impl Env, at: usize, behind: usize, space: &mut [u8]) -> Numbers
-    requires { at ≤ 4 }
-{
-    if behind != 3 {
-        return Numbers::Unclear;
+fn word_asked<R: Env>(rest: &mut Rest<'_, '_, R>) -> Option<Word> {
+    word_of(rest.text()?)
+}
+
+// What all the arguments that are left stand for: a file, if there is one argument and it is @ and a name.
+fn source_asked<R: Env>(rest: &mut Rest<'_, '_, R>) -> Source {
+    let first = rest.next;
+    if rest.count() == 1 {
+        if let Some([b'@', _, ..]) = rest.text() {
+            return Source::File { argument: first };
+        }
     }
-    three_numbers(rt, at, space)
-}
-
-fn step_asked(subject: Subject, numbers: Numbers) -> Asked {
-    let Numbers::Three {
-        first: domain,
-        second: state,
-        third: symbol,
-    } = numbers
-    else {
-        return Asked::Unclear;
-    };
-    let form = Form::Step {
-        domain,
-        state,
-        symbol,
-    };
-    Asked::Form { subject, form }
-}
-
-fn fault_asked(subject: Subject, numbers: Numbers) -> Asked {
-    let Numbers::Three {
-        first: set,
-        second: domain,
-        third: room,
-    } = numbers
-    else {
-        return Asked::Unclear;
-    };
-    let form = Form::Fault { set, domain, room };
-    Asked::Form { subject, form }
-}
-
-fn trust_asked(rt: &impl Env, subject: Subject, at: usize, behind: usize, space: &mut [u8]) -> Asked
-    requires { at ≤ 4 }
-{
-    if behind != 4 {
-        return Asked::Unclear;
-    }
-    let Numbers::Three {
-        first: set,
-        second: domain,
-        third: verdict,
-    } = three_numbers(rt, at, space)
-    else {
-        return Asked::Unclear;
-    };
-    let Decimal::Number(room) = arguments::number_at(rt, at + 3, space) else {
-        return Asked::Unclear;
-    };
-    let form = Form::Trust {
-        set,
-        domain,
-        verdict,
-        room,
-    };
-    Asked::Form { subject, form }
+    rest.skip();
+    Source::Arguments { first }
 }
 
 // The form of this word.
-fn form_asked(
-    rt: &impl Env,
-    word: Word,
-    subject: Subject,
-    at: usize,
-    behind: usize,
-    space: &mut [u8],
-) -> Asked
-    requires { at ≤ 4 }
-{
-    match word {
-        Word::Judge => judge_asked(subject, behind),
-        Word::Classes => classes_asked(subject, only_number(rt, at, behind, space)),
-        Word::Step => step_asked(subject, last_three(rt, at, behind, space)),
-        Word::Trace => trace_asked(subject, domain_and_source(rt, at, behind, space)),
-        Word::Fault => fault_asked(subject, last_three(rt, at, behind, space)),
-        Word::Trust => trust_asked(rt, subject, at, behind, space),
-        Word::Proof => proof_asked(rt, subject, at, behind, space),
-        Word::Blocks => blocks_asked(subject, only_number(rt, at, behind, space)),
-        _ => Asked::Unclear,
-    }
-}
-
-// The form that is asked of a rule: argument 2 is the rule and 3 the form's word.
-fn rule_asked(rt: &impl Env, count: usize, space: &mut [u8]) -> Asked {
-    if count < 4 {
-        return Asked::Unclear;
-    }
-    let Decimal::Number(rule) = arguments::number_at(rt, 2, space) else {
-        return Asked::Unclear;
+fn form_asked<R: Env>(word: Word, rest: &mut Rest<'_, '_, R>) -> Option<Form> {
+    let form = match word {
+        Word::Judge => Form::Judge,
+        Word::Classes => Form::Classes {
+            room: rest.number()?,
+        },
+        Word::Step => Form::Step {
+            domain: rest.number()?,
+            state: rest.number()?,
+            symbol: rest.number()?,
+        },
+        Word::Trace => Form::Trace {
+            domain: rest.number()?,
+            source: source_asked(rest),
+        },
+        Word::Fault => Form::Fault {
+            set: rest.number()?,
+            domain: rest.number()?,
+            room: rest.number()?,
+        },
+        Word::Trust => Form::Trust {
+            set: rest.number()?,
+            domain: rest.number()?,
+            verdict: rest.number()?,
+            room: rest.number()?,
+        },
+        Word::Proof => Form::Proof {
+            set: rest.number()?,
+            domain: rest.number()?,
+            source: source_asked(rest),
+        },
+        Word::Blocks => Form::Blocks {
+            domain: rest.number()?,
+        },
+        _ => return None,
     };
-    let word = word_at(rt, 3, space);
-    form_asked(rt, word, Subject::Rule(rule), 4, count - 4, space)
+    Some(form)
 }
 
-// The body itself of a rule.
-fn body_asked(number: Decimal) -> Asked {
-    let Decimal::Number(rule) = number else {
-        return Asked::Unclear;
-    };
-    let subject = Subject::Rule(rule);
-    let form = Form::Body;
-    Asked::Form { subject, form }
+// A form that is asked of the body of a rule.
+fn rule_asked<R: Env>(rest: &mut Rest<'_, '_, R>) -> Option<Asked> {
+    let rule = rest.number()?;
+    let word = word_asked(rest)?;
+    Some(Asked::Form {
+        subject: Subject::Rule(rule),
+        form: form_asked(word, rest)?,
+    })
 }
 
-// The first argument from LISTS on that is a slash; where none is, the end of the arguments or LISTS.
-fn slash_at(rt: &impl Env, count: usize, space: &mut [u8]) -> usize
-    ensures { 3 ≤ result }
-{
-    let mut i = LISTS;
-    while i < count {
-        if arguments::is_word(rt, i, b"/", space) {
-            return i;
+// A collection to be written: behind the room stand rule numbers, a slash and body lengths.
+fn write_asked<R: Env>(rest: &mut Rest<'_, '_, R>) -> Option<Asked> {
+    let room = rest.number()?;
+    for rules in 0..rest.count() {
+        if rest.text()? == b"/".as_slice() {
+            let lengths = rest.count();
+            rest.skip();
+            return Some(Asked::Write {
+                room,
+                rules,
+                lengths,
+            });
         }
-        i += 1;
     }
-    i
+    None
 }
 
-// A collection to be written: argument 2 is the room; behind it stand rule numbers, a slash and body lengths.
-fn write_asked(rt: &impl Env, count: usize, space: &mut [u8]) -> Asked {
-    let Decimal::Number(room) = arguments::number_at(rt, 2, space) else {
-        return Asked::Unclear;
+// The question of this word.
+fn question_asked<R: Env>(word: Word, rest: &mut Rest<'_, '_, R>) -> Option<Asked> {
+    let (subject, form) = match word {
+        Word::Help => {
+            rest.skip();
+            return Some(Asked::Help);
+        }
+        Word::Why => {
+            return Some(Asked::Why {
+                number: rest.number()?,
+            });
+        }
+        Word::Rule => return rule_asked(rest),
+        Word::Write => return write_asked(rest),
+        Word::Collection => (Subject::Collection, Form::Judge),
+        Word::Body => (Subject::Rule(rest.number()?), Form::Body),
+        _ => (Subject::Body, form_asked(word, rest)?),
     };
-    let slash = slash_at(rt, count, space);
-    if slash >= count {
-        return Asked::Unclear;
-    }
-    Asked::Write {
-        room,
-        rules: slash - LISTS,
-        lengths: count - slash - 1,
-    }
+    Some(Asked::Form { subject, form })
 }
 
-fn why_asked(number: Decimal) -> Asked {
-    let Decimal::Number(refusal) = number else {
-        return Asked::Unclear;
-    };
-    Asked::Why { number: refusal }
-}
-
-// Reads the arguments, one after the other, into a space that is lent.
-pub fn read(rt: &impl Env, space: &mut [u8]) -> Asked {
-    let count = arguments::count(rt);
-    if count < 2 {
-        return Asked::Unclear;
-    }
-    let word = word_at(rt, 1, space);
-    match word {
-        Word::Help => Asked::Help,
-        Word::Why => why_asked(only_number(rt, 2, count - 2, space)),
-        Word::Rule => rule_asked(rt, count, space),
-        Word::Collection => judge_asked(Subject::Collection, count - 2),
-        Word::Write => write_asked(rt, count, space),
-        Word::Body => body_asked(only_number(rt, 2, count - 2, space)),
-        _ => form_asked(rt, word, Subject::Body, 2, count - 2, space),
-    }
+// Reads the arguments, one after the other, into a space that is lent. None where they ask nothing, or more than one
+// thing.
+pub fn read(rt: &impl Env, space: &mut [u8]) -> Option<Asked> {
+    let mut rest = Rest::new(rt, space, 1);
+    let word = word_asked(&mut rest)?;
+    let asked = question_asked(word, &mut rest)?;
+    if rest.count() > 0 { None } else { Some(asked) }
 }

@@ -2,9 +2,9 @@
 ghost use Rattle.std.specs.Prelude.{◌≡◌, min};
 
 use crate::asked::Source;
-use arguments::Decimal;
-use input::Filled;
-use output::{Program, Streams};
+use arguments::Rest;
+use input::Unread;
+use output::Program;
 use std::env::Env;
 use std::fs::Files;
 
@@ -14,10 +14,9 @@ const LIMIT: usize = 262144;
 // One more, by which a longer series shows.
 pub const ROOM: usize = LIMIT + 1;
 
-// What gathering it came to: how long it is, a word that is no number, or a failure that standard error has told.
-#[derive(Drop)]
-pub enum Gathered {
-    Series { length: usize },
+// Why a series is not gathered: a word is no number, or a failure that standard error has told.
+#[derive(Clone, Copy)]
+pub enum Ungathered {
     Unclear,
     Failed,
 }
@@ -26,75 +25,53 @@ pub enum Gathered {
 fn byte_of(number: usize) -> u8
     ensures { result ≡ min number 255 }
 {
-    if number < 255 { number as u8 } else { 255 }
+    u8::try_from(number).unwrap_or(255)
 }
 
-// Fills the area with the program's last arguments. Answers whether there are so many and all are numbers.
-fn read_numbers(rt: &impl Env, area: &mut [u8], space: &mut [u8]) -> bool {
-    let count = arguments::count(rt);
-    if count < area.len() {
-        return false;
-    }
-    let first = count - area.len();
-    let mut i = 0;
-    while i < area.len() {
-        let Decimal::Number(number) = arguments::number_at(rt, first + i, space) else {
-            return false;
-        };
-        area[i] = byte_of(number);
-        i += 1;
-    }
-    true
-}
-
-// The last arguments, so many, a number each.
-fn from_arguments(
-    rt: &impl Env,
-    streams: Streams,
-    count: usize,
+// The arguments that are left, a number each.
+fn from_arguments<R: Env>(
+    program: Program,
+    mut rest: Rest<'_, '_, R>,
     area: &mut [u8],
-    space: &mut [u8],
-) -> Gathered {
+) -> Result<usize, Ungathered> {
+    let count = rest.count();
     if count >= area.len() {
-        output::complaint(streams, Program::Ask, b"more than 262144 numbers");
-        return Gathered::Failed;
+        program.complain("more than 262144 numbers");
+        return Err(Ungathered::Failed);
     }
-    if read_numbers(rt, &mut area[0..count], space) {
-        return Gathered::Series { length: count };
+    for place in &mut area[..count] {
+        *place = byte_of(rest.number().ok_or(Ungathered::Unclear)?);
     }
-    Gathered::Unclear
+    Ok(count)
 }
 
 // The bytes of a file. Its name stands in an argument, behind the @.
 fn from_file(
     rt: &(impl Env + Files),
-    streams: Streams,
+    program: Program,
     argument: usize,
     area: &mut [u8],
     space: &mut [u8],
-) -> Gathered {
+) -> Result<usize, Ungathered> {
     let end = arguments::text_at(rt, argument, space);
     let name = basics::part(&space[..end], 1, end);
-    match input::read_file(rt, streams, Program::Ask, name, area) {
-        Filled::Whole { length } => Gathered::Series { length },
-        Filled::Longer => {
-            output::complaint_of(streams, Program::Ask, name, b"more than 262144 bytes");
-            Gathered::Failed
-        }
-        Filled::Failed => Gathered::Failed,
+    let read = input::read_file(rt, program, name, area);
+    if let Err(Unread::Longer) = read {
+        program.complain_of(name, b"more than 262144 bytes");
     }
+    read.or(Err(Ungathered::Failed))
 }
 
-// Puts the series into the first bytes of an area of ROOM bytes.
+// Puts the series into the first bytes of an area of ROOM bytes, and answers how many they are.
 pub fn gather(
     rt: &(impl Env + Files),
-    streams: Streams,
+    program: Program,
     source: Source,
     area: &mut [u8],
     space: &mut [u8],
-) -> Gathered {
+) -> Result<usize, Ungathered> {
     match source {
-        Source::Arguments(count) => from_arguments(rt, streams, count, area, space),
-        Source::File { argument } => from_file(rt, streams, argument, area, space),
+        Source::Arguments { first } => from_arguments(program, Rest::new(rt, space, first), area),
+        Source::File { argument } => from_file(rt, program, argument, area, space),
     }
 }

@@ -3,19 +3,11 @@
 
 ghost use Rattle.std.specs.Prelude.{◌≡◌, ◌<◌, ◌≤◌, ◌++◌, length, min, get_or, take, drop};
 
-// The number of the question that was answered no, and its place.
-#[derive(Clone, Copy)]
-pub struct Refusal {
-    pub number: usize,
-    pub place: usize,
-}
+mod refusal;
+mod scan;
 
-// What a call answers that writes bytes into an area: how many it wrote, or a refusal.
-#[derive(Clone, Copy)]
-pub enum Writing {
-    Written { length: usize },
-    Refused(Refusal),
-}
+pub use refusal::{NoReason, Reason, Refusal};
+pub use scan::{any_below, first_in};
 
 // The smaller of two numbers.
 pub fn least_of(a: usize, b: usize) -> usize

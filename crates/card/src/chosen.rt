@@ -2,9 +2,10 @@
 ghost use Rattle.std.specs.Prelude.{◌≡◌, eqb, get_or, set};
 
 use crate::page::Page;
-use arguments::Decimal;
-use output::Output;
+use arguments::Rest;
 use std::env::Env;
+use std::io;
+use std::io::Write;
 
 // The first number that is too great for a rule. It stands for all greater ones too.
 const BEYOND: usize = 65536;
@@ -17,32 +18,21 @@ pub fn wanted_at_first(rt: &impl Env) -> u8 {
     if arguments::count(rt) < 2 { 1 } else { 0 }
 }
 
-// Argument i as one of these numbers.
-fn number_at(rt: &impl Env, i: usize, space: &mut [u8]) -> Decimal {
-    let Decimal::Number(number) = arguments::number_at(rt, i, space) else {
-        return Decimal::NotANumber;
-    };
-    Decimal::Number(basics::least_of(number, BEYOND))
+// The next argument as one of these numbers.
+fn number<R: Env>(rest: &mut Rest<'_, '_, R>) -> Option<usize> {
+    Some(basics::least_of(rest.number()?, BEYOND))
 }
 
-fn mark(wanted: &mut [u8], number: usize) {
-    if number < wanted.len() {
-        wanted[number] = 1;
+// Marks what the arguments ask for, if every argument is a number.
+pub fn read_arguments(rt: &impl Env, wanted: &mut [u8], space: &mut [u8]) -> Option<()> {
+    let mut rest = Rest::new(rt, space, 1);
+    for _ in 0..rest.count() {
+        let number = number(&mut rest)?;
+        if number < wanted.len() {
+            wanted[number] = 1;
+        }
     }
-}
-
-// Marks what the arguments ask for. Answers whether every argument is a number.
-pub fn read_arguments(rt: &impl Env, wanted: &mut [u8], space: &mut [u8]) -> bool {
-    let count = arguments::count(rt);
-    let mut i = 1;
-    while i < count {
-        let Decimal::Number(number) = number_at(rt, i, space) else {
-            return false;
-        };
-        mark(wanted, number);
-        i += 1;
-    }
-    true
+    Some(())
 }
 
 // Whether the number is wanted. From then on it is not.
@@ -59,36 +49,28 @@ pub fn take(wanted: &mut [u8], number: usize) -> bool
 }
 
 // The line of a number that is wanted and has no card.
-fn missing(out: Output, number: usize) -> Output {
+fn missing(page: &mut Page, number: usize) -> io::Result<()> {
+    page.begin(false)?;
     if number == BEYOND {
-        return out.text(b"rule numbers go up to 65535\n");
+        return writeln!(page.out, "rule numbers go up to 65535");
     }
-    out.text(b"rule ")
-        .number(number)
-        .text(b": not in the collection\n")
-}
-
-// Prints this line for argument i if it is still wanted.
-fn missing_line(rt: &impl Env, page: Page, wanted: &mut [u8], i: usize, space: &mut [u8]) -> Page {
-    let Decimal::Number(number) = number_at(rt, i, space) else {
-        return page;
-    };
-    if !take(wanted, number) {
-        return page;
-    }
-    Page {
-        out: missing(page.after_gap(), number),
-        gap_due: false,
-    }
+    writeln!(page.out, "rule {number}: not in the collection")
 }
 
 // These lines, once for each number, in the order of the arguments.
-pub fn missing_lines(rt: &impl Env, page: Page, wanted: &mut [u8], space: &mut [u8]) {
-    let count = arguments::count(rt);
-    let mut after = page;
-    let mut i = 1;
-    while i < count {
-        after = missing_line(rt, after, wanted, i, space);
-        i += 1;
+pub fn missing_lines(
+    rt: &impl Env,
+    page: &mut Page,
+    wanted: &mut [u8],
+    space: &mut [u8],
+) -> io::Result<()> {
+    let mut rest = Rest::new(rt, space, 1);
+    for _ in 0..rest.count() {
+        if let Some(number) = number(&mut rest) {
+            if take(wanted, number) {
+                missing(page, number)?;
+            }
+        }
     }
+    Ok(())
 }

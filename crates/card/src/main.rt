@@ -6,76 +6,73 @@ mod chosen;
 mod page;
 mod words;
 
-use collection::Collected;
-use input::Input;
-use output::{Output, Program, Streams};
+use input::{TOO_LONG, Unread};
+use output::Program;
 use page::Page;
 use std::env::Env;
+use std::io;
+use std::io::Write;
+use words::Refused;
 
 // The cards of the rules that are asked for, with an empty line between two.
-fn cards(page: Page, file: &[u8], count: usize, wanted: &mut [u8]) -> Page {
-    let mut after = page;
-    let mut i = 0;
-    while i < count {
+fn cards(page: &mut Page, file: &[u8], count: usize, wanted: &mut [u8]) -> io::Result<()> {
+    for i in 0..count {
         let rule = collection::rule_number(file, i);
         if chosen::take(wanted, rule) {
-            after = Page {
-                out: showing::card(after.after_gap(), rule, collection::body(file, i)),
-                gap_due: true,
-            };
+            page.begin(true)?;
+            showing::card(&mut page.out, rule, collection::body(file, i))?;
         }
-        i += 1;
     }
-    after
-}
-
-// What an empty collection gets instead of cards.
-fn no_rules(out: Output, count: usize) -> Output {
-    if count == 0 {
-        return out.text(b"no rules in the collection\n");
-    }
-    out
+    Ok(())
 }
 
 // The collection is what is first in the space, so many bytes.
-fn report(rt: &impl Env, out: Output, length: usize, wanted: &mut [u8], space: &mut [u8]) {
+fn report(
+    rt: &impl Env,
+    mut program: Program,
+    length: usize,
+    wanted: &mut [u8],
+    space: &mut [u8],
+) -> io::Result<()> {
     match collection::judge(basics::part(space, 0, length)) {
-        Collected::Refused(r) => words::collection_refusal(out, r),
-        Collected::Accepted { count } => {
-            let page = Page {
-                out: no_rules(out, count),
+        Ok(count) => {
+            if count == 0 {
+                writeln!(program.output, "no rules in the collection")?;
+            }
+            let mut page = Page {
+                out: program.output,
                 gap_due: false,
             };
-            let shown = cards(page, basics::part(space, 0, length), count, wanted);
-            chosen::missing_lines(rt, shown, wanted, space);
+            cards(&mut page, basics::part(space, 0, length), count, wanted)?;
+            chosen::missing_lines(rt, &mut page, wanted, space)
         }
+        Err(refusal) => writeln!(program.output, "{}", Refused(refusal)),
     }
 }
 
-fn answer(rt: &impl Env, streams: Streams, out: Output, wanted: &mut [u8], space: &mut [u8]) {
-    match input::read(streams, Program::Card, space) {
-        Input::Whole { length } => report(rt, out, length, wanted, space),
-        Input::Refused(r) => words::collection_refusal(out, r),
-        Input::Failed => {}
+fn answer(
+    rt: &impl Env,
+    mut program: Program,
+    wanted: &mut [u8],
+    space: &mut [u8],
+) -> io::Result<()> {
+    match input::read(program, space) {
+        Ok(length) => report(rt, program, length, wanted, space),
+        Err(Unread::Longer) => writeln!(program.output, "{}", Refused(TOO_LONG)),
+        Err(Unread::Failed) => Ok(()),
     }
 }
 
 fn main(rt: HostRuntime) {
-    let streams = Streams {
-        input: rt.stdin(),
-        output: rt.stdout(),
-        error: rt.stderr(),
-    };
-    let out = output::standard(streams, Program::Card);
+    let mut program = Program::new("card", &rt);
     let mut space = [0u8; arguments::ROOM];
     if arguments::is_word(&rt, 1, b"--help", &mut space) {
-        words::help(out);
+        program.tell(program.output.write_all(words::HELP));
         return;
     }
     let mut wanted = [chosen::wanted_at_first(&rt); chosen::NUMBERS];
-    if chosen::read_arguments(&rt, &mut wanted, &mut space) {
-        answer(&rt, streams, out, &mut wanted, &mut space);
-    } else {
-        words::usage(streams);
+    match chosen::read_arguments(&rt, &mut wanted, &mut space) {
+        Some(()) => program.tell(answer(&rt, program, &mut wanted, &mut space)),
+        None => words::usage(program),
     }
 }

@@ -1,20 +1,21 @@
 // What is printed so far.
-use output::Output;
+use std::io;
+use std::io::{Stdout, Write};
 
 // The output, and whether an empty line is due before what is printed next.
 #[derive(Drop)]
 pub struct Page {
-    pub out: Output,
+    pub out: Stdout,
     pub gap_due: bool,
 }
 
 impl Page {
-    // The output, after the empty line where it is due.
-    pub fn after_gap(self) -> Output {
-        let out = self.out;
+    // Prints the empty line where it is due, and says whether it is due next.
+    pub fn begin(&mut self, gap_due: bool) -> io::Result<()> {
         if self.gap_due {
-            return out.text(b"\n");
+            writeln!(self.out)?;
         }
-        out
+        self.gap_due = gap_due;
+        Ok(())
     }
 }

@@ -14,7 +14,7 @@ use Rattle.theory.specs.Below.{first}
 use Rattle.theory.specs.Certificate.{block_of, same_block, disagrees}
 use Rattle.theory.proofs.Below.{clash, not_clash, is_true, lt_or_le, first_is, first_le, first_below, first_here}
 use Rattle.theory.proofs.Certificate.{Equivalence, disagrees_at, disagrees_by}
-use Rattle.certificate.specs.Agreeing.{Numbered, lowest_in, Lowest}
+use Rattle.certificate.specs.Agreeing.{Numbered, lowest_in, Lowest, differs_from_lowest}
 
 -- ---- entering them, from the highest state down
 
@@ -24,7 +24,7 @@ pub record Entered (limit : ℕ) (c : List ℕ) (i : ℕ) (low : List ℕ) : Typ
   pub upto : i ≤ length c
   pub each : (q : ℕ) → i ≤ q → q < length c → get_or low (block_of c q) 0 ≡ first (λ p. same_block c p q) i (length c - i)
 
-pub enter_goes_on : {limit : ℕ} {c low : List ℕ} (i : ℕ) → Numbered limit (length c) c → i < length c → Entered limit c (suc i) low
+pub enter_goes_on : {limit n : ℕ} {c low : List ℕ} (i : ℕ) → Numbered limit n c → i < length c → Entered limit c (suc i) low
     → Entered limit c i (set low (block_of c i) i)
 unfolding first
 enter_goes_on {c} {low} i numbered l x = record { size = length-set low (block_of c i) i ∙ x.size; upto = omega (arith, l); each = each }
@@ -39,7 +39,7 @@ enter_goes_on {c} {low} i numbered l x = record { size = length-set low (block_o
         go true e =
             let same = eqb-true (block_of c i) (block_of c q) e in
             subst (λ (z : ℕ). get_or (set low (block_of c i) i) z 0 ≡ i) same
-            (get_or-set_same low (block_of c i) i 0 (omega (arith, x.size, numbered.most, numbered.below i l)))
+            (get_or-set_same low (block_of c i) i 0 (omega (arith, x.size, numbered.most, numbered.below i (omega (arith, l, numbered.size)))))
         go false e =
             let other = eqb-false (block_of c i) (block_of c q) e in
             let later : suc i ≤ q = ⊎_elim (λ (s : i < q). s) (λ (s : q ≤ i). absurd (other (ap (block_of c) (le_antisymm li s)))) (lt_or_le i q) in
@@ -78,21 +78,21 @@ module _ (c : List ℕ) where
   lowest_same p q e = ap (λ (b : ℕ). first (λ x. eqb (block_of c x) b) 0 (length c)) e
 
   module _ (agree : ℕ → ℕ → Bool) where
-    abbrev pub differs_from_lowest : ℕ → Bool
-    differs_from_lowest q = not (agree (lowest_in c q) q)
+    abbrev differs : ℕ → Bool
+    differs = differs_from_lowest c agree
 
     abbrev place : ℕ
-    place = first differs_from_lowest 0 (length c)
+    place = first differs 0 (length c)
 
     -- comparing with the lowest state of the block finds the same place as comparing with every lower state of it
     module _ (equal : Equivalence agree) where
-      found : (q : ℕ) → q < length c → differs_from_lowest q ≡ true → disagrees agree c q ≡ true
+      found : (q : ℕ) → q < length c → differs q ≡ true → disagrees agree c q ≡ true
       found q l e =
-          let differs = not-true (agree (lowest_in c q) q) e in
+          let apart = not-true (agree (lowest_in c q) q) e in
           let below : lowest_in c q < q = ⊎_elim (λ (s : lowest_in c q < q). s)
-          (λ (s : q ≤ lowest_in c q). absurd (clash (subst (λ (z : ℕ). agree z q ≡ true) (le_antisymm s (lowest_most q l)) (equal.itself q)) differs))
+          (λ (s : q ≤ lowest_in c q). absurd (clash (subst (λ (z : ℕ). agree z q ≡ true) (le_antisymm s (lowest_most q l)) (equal.itself q)) apart))
           (lt_or_le (lowest_in c q) q) in
-          disagrees_at agree c (lowest_in c q) q below (lowest_block q l) differs
+          disagrees_at agree c (lowest_in c q) q below (lowest_block q l) apart
 
       passed : (q : ℕ) → q < place → disagrees agree c q ≡ true → ⊥
       passed q l t =
@@ -101,12 +101,12 @@ module _ (c : List ℕ) where
           clash (equal.others (lowest_in c q) d.0 q near (agrees q l)) d.3
         where
           agrees : (p : ℕ) → p < place → agree (lowest_in c p) p ≡ true
-          agrees p s = is_true (λ h. clash (ap not h) (first_below differs_from_lowest 0 (length c) p zero-le s))
+          agrees p s = is_true (λ h. clash (ap not h) (first_below differs 0 (length c) p zero-le s))
 
       pub same_place : first (disagrees agree c) 0 (length c) ≡ place
       same_place =
-          first_is (disagrees agree c) (length c) 0 place zero-le (first_le differs_from_lowest 0 (length c)) (λ q _ l. not_clash (passed q l))
-          (λ l. found place (omega (arith, l)) (first_here differs_from_lowest 0 (length c) l))
+          first_is (disagrees agree c) (length c) 0 place zero-le (first_le differs 0 (length c)) (λ q _ l. not_clash (passed q l))
+          (λ l. found place (omega (arith, l)) (first_here differs 0 (length c) l))
 
-      pub by_lowest : {n : ℕ} → length c ≡ n → first (disagrees agree c) 0 n ≡ first differs_from_lowest 0 n
-      by_lowest e = subst (λ (n : ℕ). first (disagrees agree c) 0 n ≡ first differs_from_lowest 0 n) e same_place
+      pub by_lowest : {n : ℕ} → length c ≡ n → first (disagrees agree c) 0 n ≡ first (differs_from_lowest c agree) 0 n
+      by_lowest e = subst (λ (n : ℕ). first (disagrees agree c) 0 n ≡ first (differs_from_lowest c agree) 0 n) e same_place

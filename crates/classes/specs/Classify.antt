@@ -1,13 +1,14 @@
 -- The call that answers the classes of a table.
-use Rattle.std.specs.Prelude.{List, [], ◌∷◌, ◌++◌, ℕ}
+use Rattle.std.specs.Prelude.{List, [], ◌∷◌, ◌++◌, ℕ, Result}
 use Rattle.theory.specs.Below.{values}
-use Rattle.theory.specs.Answer.{Question, Answer, answered, asks}
+use Rattle.theory.specs.Answer.{Question, Answer, asks}
 use Rattle.theory.specs.Monitor.{Monitor, class, monitorability, states_reached}
-use Rattle.basics.specs.Refusals.{refusal}
+use Rattle.basics.specs.declared.refusal.Refusal.{Refusal}
+use Rattle.basics.specs.Refusals.{answer_by}
 use Rattle.monitor.specs.Format.{monitor_of}
 use Rattle.monitor.specs.Questions.{table_questions, question13}
-use Rattle.classes.specs.declared.Classification.{Classification}
-use Rattle.classes.specs.declared.Classification.TheVariants.{Classified, Refused}
+use Rattle.classes.specs.declared.Classified.{Classified}
+use Rattle.classes.specs.Numbers.{monitorability_number}
 
 -- "classes fill the first n bytes": the class of each state, in order
 abbrev pub class_list : Monitor → List ℕ
@@ -27,6 +28,5 @@ classify_answer limit b room =
     asks (table_questions limit b ++ classify_questions room (monitor_of b)) (classify_figures (monitor_of b))
 
 -- 01's numbers of a classification
-abbrev pub classification : Classification → Answer (List ℕ)
-classification (Classified m r) = answered (m ∷ r ∷ [])
-classification (Refused r) = refusal r
+abbrev pub classification : Result Classified Refusal → Answer (List ℕ)
+classification r = answer_by (λ c. monitorability_number c.monitorability ∷ c.reached ∷ []) r

@@ -1,37 +1,20 @@
--- Looking up a rule: the scan through the entries finds it; and in an accepted collection it finds every entry again.
+-- Looking up a rule: in an accepted collection every entry is found again.
 use mathlib.Core.Path.{◌≡◌, refl, sym, ap, subst, ◌∙◌}
 use mathlib.Core.Bool.{Bool, true, false, cond}
 use mathlib.Core.List.{List, [], ◌∷◌}
-use Prim.Native.Nat.{ℕ, zero, suc, ◌+◌, ◌-◌, ◌≤◌, ◌<◌, zero-le}
+use Prim.Native.Nat.{ℕ, zero, suc, ◌+◌, ◌-◌, ◌<◌, zero-le}
 use native.Mathlib.Nat.{zero-add, lt_trans}
 use native.Mathlib.Omega.{arith}
 use lib.Dec.{eqb, ltb}
-use borrow.Author.Tests.{eqb-true, eq-eqb, ne_eqb, lt-ltb, le-ltb, ltb-true}
+use borrow.Author.Tests.{eqb-true, eq-eqb, ne_eqb, lt-ltb, ltb-true}
+use Rattle.std.specs.Prelude.{Some, None}
 use Rattle.theory.specs.Answer.{answered}
 use Rattle.theory.proofs.Below.{first_here}
-use Rattle.theory.proofs.Scan.{Passed, scan_finds, scan_ends}
+use Rattle.theory.proofs.Scan.{scan_finds}
 use Rattle.collection.proofs.Answered.{all_answered}
 use Rattle.collection.proofs.Entries.{rises_later}
 use Rattle.collection.proofs.Order.{passes_at}
-use Rattle.collection.specs.declared.Lookup.TheVariants.{Entry, Absent}
 use Rattle.collection.specs.Contents.{count_of, rule_of, rises, first_with, entry_with, collection_answer}
-
--- the scan has reached entry i
-module _ (file : List ℕ) (rule : ℕ) {count i : ℕ} (e : count ≡ count_of file) (p : Passed (λ j. eqb (rule_of file j) rule) 0 count i) where
-  within : Passed (λ j. eqb (rule_of file j) rule) 0 (count_of file) i
-  within = subst (λ (c : ℕ). Passed (λ j. eqb (rule_of file j) rule) 0 c i) e p
-
-  pub found : i < count → rule_of file i ≡ rule → Entry i ≡ entry_with file rule
-  found h f =
-      let g : i ≡ first_with file rule = scan_finds within (eq-eqb (rule_of file i) rule f) in
-      let l : i < count_of file = omega (arith, e, h) in
-      rw (← g, lt-ltb i (count_of file) l)
-
-  pub absent : count ≤ i → Absent ≡ entry_with file rule
-  absent h =
-      let l : count_of file ≤ i = omega (arith, e, h) in
-      let g : i ≡ first_with file rule = scan_ends within (omega (arith, l)) in
-      rw (← g, le-ltb i (count_of file) l)
 
 module _ (file : List ℕ) (accepted : collection_answer file ≡ answered (count_of file ∷ [])) where
   -- each rule number is greater than the one before
@@ -55,15 +38,17 @@ module _ (file : List ℕ) (accepted : collection_answer file ≡ answered (coun
       ne_eqb (rule_of file j) (rule_of file i) (λ q. omega (arith, q, less))
 
   -- looking up an entry's rule number finds that entry
-  pub found_again : (i : ℕ) → i < count_of file → entry_with file (rule_of file i) ≡ Entry i
+  pub found_again : (i : ℕ) → i < count_of file → entry_with file (rule_of file i) ≡ Some i
   found_again i h =
-      sym (found file (rule_of file i) refl record { from = zero-le; upto = omega (arith, h); fails = λ j g l. others i h j l } h refl)
+      let first : i ≡ first_with file (rule_of file i) =
+      scan_finds record { from = zero-le; upto = omega (arith, h); fails = λ j g l. others i h j l } (eq-eqb (rule_of file i) (rule_of file i) refl) in
+      rw (← first, lt-ltb i (count_of file) h)
 
 -- an entry that is found is there and has the rule number
-pub found_right : (file : List ℕ) (rule i : ℕ) → entry_with file rule ≡ Entry i → (i < count_of file) × (rule_of file i ≡ rule)
+pub found_right : (file : List ℕ) (rule i : ℕ) → entry_with file rule ≡ Some i → (i < count_of file) × (rule_of file i ≡ rule)
 found_right file rule i e = go (ltb (first_with file rule) (count_of file)) refl e
   where
-    go : (b : Bool) → ltb (first_with file rule) (count_of file) ≡ b → cond b (Entry (first_with file rule)) Absent ≡ Entry i
+    go : (b : Bool) → ltb (first_with file rule) (count_of file) ≡ b → cond b (Some (first_with file rule)) None ≡ Some i
         → (i < count_of file) × (rule_of file i ≡ rule)
     go true l h =
         let same : first_with file rule ≡ i = cc in

@@ -1,15 +1,12 @@
 -- A collection file and the questions asked of it. A file is any list of numbers, whether or not they are bytes.
-use Rattle.std.specs.Prelude.{Bool, cond, not, ◌||◌, List, [], ◌∷◌, ℕ, zero, suc, ◌+◌, ◌*◌, ◌-◌, length, get_or, take, drop, eqb, leb, ltb}
+use Rattle.std.specs.Prelude.{Bool, cond, not, ◌||◌, List, [], ◌∷◌, ℕ, zero, suc, ◌+◌, ◌*◌, ◌-◌, length, get_or, take}
+use Rattle.std.specs.Prelude.{drop, eqb, leb, ltb}
+use Rattle.std.specs.Prelude.{Option, None, Some, Result}
 use Rattle.theory.specs.Below.{first}
-use Rattle.theory.specs.Answer.{Question, Answer, answered, asks}
-use Rattle.basics.specs.Refusals.{refusal}
+use Rattle.theory.specs.Answer.{Question, Answer, asks}
+use Rattle.basics.specs.declared.refusal.Refusal.{Refusal}
+use Rattle.basics.specs.Refusals.{answer_by}
 use Rattle.monitor.specs.Questions.{of_each}
-use Rattle.collection.specs.declared.Collected.{Collected}
-use Rattle.collection.specs.declared.Collected.TheVariants.{Accepted, Refused}
-use Rattle.collection.specs.declared.Lookup.{Lookup}
-use Rattle.collection.specs.declared.Lookup.TheVariants.{Entry, Absent}
-use Rattle.collection.specs.declared.Test.{Test}
-use Rattle.collection.specs.declared.Test.TheVariants.{RulesRise, BodiesFollow}
 
 -- "All numbers are least byte first.": the number of `width` bytes from a place on; what is not there counts as 0
 abbrev pub number_at : ℕ → List ℕ → ℕ → ℕ
@@ -104,21 +101,13 @@ unfoldable pub collection_answer : List ℕ → Answer (List ℕ)
 collection_answer file = asks (collection_questions file) (count_of file ∷ [])
 
 -- 01's number and place of a refusal, or the count
-abbrev pub collected : Collected → Answer (List ℕ)
-collected (Accepted count) = answered (count ∷ [])
-collected (Refused r) = refusal r
+abbrev pub collected : Result ℕ Refusal → Answer (List ℕ)
+collected r = answer_by (λ count. count ∷ []) r
 
 -- the first of the c entries that has this rule number, from 0; c where none has it
 abbrev pub first_with : List ℕ → ℕ → ℕ
 first_with file rule = first (λ i. eqb (rule_of file i) rule) 0 (count_of file)
 
 -- the entry that has this rule number, if one has it
-abbrev pub entry_with : List ℕ → ℕ → Lookup
-entry_with file rule = cond (ltb (first_with file rule) (count_of file)) (Entry (first_with file rule)) Absent
-
--- ---- layers
-
--- the test of question 23, and that of 24
-abbrev pub test_of : Test → List ℕ → ℕ → Bool
-test_of RulesRise file = rises (rule_of file)
-test_of BodiesFollow file = follows file
+abbrev pub entry_with : List ℕ → ℕ → Option ℕ
+entry_with file rule = cond (ltb (first_with file rule) (count_of file)) (Some (first_with file rule)) None

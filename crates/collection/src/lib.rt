@@ -1,78 +1,64 @@
 // A collection of bodies: judging its contents, an entry's rule number and body, and the entry of a rule number.
 #![tactic(auto)]
 
-ghost use Rattle.std.specs.Prelude.{◌≡◌, ◌<◌};
-ghost use Rattle.theory.specs.Answer.{Answer};
-ghost use Rattle.collection.specs.Contents.{number_at, entry_of, offset_of, length_of, rule_of, body_of, start_of_body};
-ghost use Rattle.collection.specs.Contents.{rises as Contents·rises, follows as Contents·follows};
-ghost use Rattle.collection.specs.Contents.{first_no, test_of, collection_answer, collected, entry_with};
+ghost use Rattle.std.specs.Prelude.{◌≡◌, ◌<◌, ◌≤◌, ◌+◌, ◌^◌, ℕ, get_or};
+ghost use Rattle.collection.specs.Contents.{count_of, offset_of, length_of, rule_of, body_of, start_of_body};
+ghost use Rattle.collection.specs.Contents.{rises, follows as Contents·follows, first_no};
+ghost use Rattle.collection.specs.Contents.{collection_answer, collected, entry_with};
 
-use basics::Refusal;
+use basics::{Reason, Refusal};
 
 // The greatest number of entries.
 pub const ENTRY_LIMIT: usize = 512;
 
-// What judging a collection answers: the number of its entries, or a refusal.
-#[derive(Drop)]
-pub enum Collected {
-    Accepted { count: usize },
-    Refused(Refusal),
+// What an entry says: where its body starts, how long the body is, and its rule number.
+#[derive(Clone, Copy, Default)]
+struct Entry {
+    offset: u32,
+    length: u16,
+    rule: u16,
 }
 
-// What looking up a rule answers: its entry, from 0, or that it has none.
-#[derive(Drop)]
-pub enum Lookup {
-    Entry(usize),
-    Absent,
-}
-
-// What an entry is asked: its rule number is greater than the one before, or its body starts where it has to.
-#[derive(Clone, Copy)]
-enum Test {
-    RulesRise,
-    BodiesFollow,
-}
-
-fn refused(number: usize, place: usize) -> Collected
-    ensures { collected result ≡ Answer.refused number place }
-{
-    Collected::Refused(Refusal { number, place })
-}
-
-// The number of two bytes from a place on.
-fn two_bytes_at(bytes: &[u8], at: usize) -> usize
-    requires { at < 8 }
-    ensures { (result ≡ number_at 2 bytes.now at)
-        × (result < 65536) }
-{
-    basics::byte_at(bytes, at) + 256 * basics::byte_at(bytes, at + 1)
-}
-
-// The eight bytes of entry i, as far as the file has them; none if there is no entry i.
-fn entry(file: &[u8], i: usize) -> &[u8]
-    ensures { result.now ≡ entry_of file.now i }
-{
-    if i < two_bytes_at(file, 0) {
-        return basics::part(file, 2 + 8 * i, 8);
+impl Entry {
+    // Where its body ends.
+    fn end(self) -> usize
+        ensures { result ≡ self.offset + self.length }
+    {
+        self.offset as usize + self.length as usize
     }
-    &file[0..0]
 }
 
-// Where entry i says that its body starts.
-fn body_offset(file: &[u8], i: usize) -> usize
-    ensures { (result ≡ offset_of file.now i)
-        × (result < 4294967296) }
+// The N bytes from a place on, 0 for those past the end.
+fn bytes_at<const N: usize>(file: &[u8], from: usize) -> [u8; N]
+    ensures { (i : ℕ) → i < N → get_or result i 0 ≡ get_or file.now (from + i) 0 }
 {
-    let bytes = entry(file, i);
-    two_bytes_at(bytes, 0) + 65536 * two_bytes_at(bytes, 2)
+    let mut bytes = [0; N];
+    basics::copy(basics::part(file, from, N), &mut bytes);
+    bytes
 }
 
-// The length that entry i gives its body.
-fn body_length(file: &[u8], i: usize) -> usize
-    ensures { (result ≡ length_of file.now i)
-        × (result < 65536) }
+// The count at the head of the file.
+fn count_of(file: &[u8]) -> usize
+    ensures value { result ≡ count_of file.now }
+    ensures small { result < 65536 }
 {
-    two_bytes_at(entry(file, i), 4)
+    u16::from_le_bytes(bytes_at(file, 0)) as usize
+}
+
+// Entry i, as far as the file has it; all 0 if there is no entry i.
+fn entry_at(file: &[u8], i: usize) -> Entry
+    ensures { result
+        ≡ record { offset = offset_of file.now i; length = length_of file.now i; rule = rule_of file.now i } }
+{
+    if i >= count_of(file) {
+        return Entry::default();
+    }
+    let from = 2 + 8 * i;
+    Entry {
+        offset: u32::from_le_bytes(bytes_at(file, from)),
+        length: u16::from_le_bytes(bytes_at(file, from + 4)),
+        rule: u16::from_le_bytes(bytes_at(file, from + 6)),
+    }
 }
 
 // The rule number of entry i, 0 if there is no entry i.
@@ -80,16 +66,15 @@ pub fn rule_number(file: &[u8], i: usize) -> usize
     ensures { (result ≡ rule_of file.now i)
         × (result < 65536) }
 {
-    two_bytes_at(entry(file, i), 6)
+    entry_at(file, i).rule as usize
 }
 
 // The body of entry i, as far as the file has it: all of it in an accepted collection.
 pub fn body(file: &[u8], i: usize) -> &[u8]
     ensures { result.now ≡ body_of file.now i }
 {
-    let from = body_offset(file, i);
-    let size = body_length(file, i);
-    basics::part(file, from, size)
+    let entry = entry_at(file, i);
+    basics::part(file, entry.offset as usize, entry.length as usize)
 }
 
 // Where body i has to start; with i = c, where the file has to end.
@@ -97,92 +82,61 @@ fn start_of_body(file: &[u8], i: usize) -> usize
     ensures { result ≡ start_of_body file.now i }
 {
     if i == 0 {
-        return 2 + 8 * two_bytes_at(file, 0);
+        return 2 + 8 * count_of(file);
     }
-    body_offset(file, i - 1) + body_length(file, i - 1)
-}
-
-// Whether the rule number of entry i is greater than the one before.
-fn rises(file: &[u8], i: usize) -> bool
-    ensures { result ≡ Contents·rises (rule_of file.now) i }
-{
-    if i == 0 {
-        return true;
-    }
-    rule_number(file, i - 1) < rule_number(file, i)
+    entry_at(file, i - 1).end()
 }
 
 // Whether body i starts where it has to.
 fn follows(file: &[u8], i: usize) -> bool
     ensures { result ≡ Contents·follows file.now i }
 {
-    body_offset(file, i) == start_of_body(file, i)
+    entry_at(file, i).offset as usize == start_of_body(file, i)
 }
 
-// Whether entry i passes the test.
-fn passes(file: &[u8], test: Test, i: usize) -> bool
-    ensures { result ≡ test_of test file.now i }
+// The first of `count` rule numbers that is not greater than the one before, or the count.
+pub fn first_not_rising<F: Fn(usize) -> usize>(count: usize, rule: F) -> usize
+    requires { (i : ℕ) → i < count → F.pre rule i }
+    ensures { (f : ℕ → ℕ) → ((i n : ℕ) → i < count → F.post rule i n → n ≡ f i) → result ≡ first_no (rises f) count }
 {
-    match test {
-        Test::RulesRise => rises(file, i),
-        Test::BodiesFollow => follows(file, i),
-    }
+    basics::first_in(0, count, |i| i > 0 && rule(i - 1) >= rule(i))
 }
 
-// The first entry that does not pass the test, or the count.
-fn first_no(file: &[u8], test: Test, count: usize) -> usize
-    ensures { result ≡ first_no (test_of test file.now) count }
-{
-    let mut i = 0;
-    while i < count {
-        if !passes(file, test, i) {
-            return i;
-        }
-        i += 1;
-    }
-    i
-}
-
-// Accepts a collection, or refuses it with the first question that it answers no. The bodies are not asked.
-pub fn judge(file: &[u8]) -> Collected
+// Accepts a collection and answers its count, or refuses it with the first question that it answers no. The bodies are
+// not asked.
+pub fn judge(file: &[u8]) -> Result<usize, Refusal>
     ensures { collected result ≡ collection_answer file.now }
 {
     let len = file.len();
     if len < 2 {
-        return refused(20, 0);
+        return Err(Reason::FileTooShort.at(0));
     }
-    let count = two_bytes_at(file, 0);
+    let count = count_of(file);
     if count > ENTRY_LIMIT {
-        return refused(21, 0);
+        return Err(Reason::RuleCount.at(0));
     }
     if len < 2 + 8 * count {
-        return refused(22, 0);
+        return Err(Reason::EntriesMissing.at(0));
     }
-    let unsorted = first_no(file, Test::RulesRise, count);
+    let unsorted = first_not_rising(count, |i| rule_number(file, i));
     if unsorted < count {
-        return refused(23, unsorted);
+        return Err(Reason::RuleOrder.at(unsorted));
     }
-    let misplaced = first_no(file, Test::BodiesFollow, count);
+    let misplaced = basics::first_in(0, count, |i| !follows(file, i));
     if misplaced < count {
-        return refused(24, misplaced);
+        return Err(Reason::BodyPlace.at(misplaced));
     }
     if len != start_of_body(file, count) {
-        return refused(25, 0);
+        return Err(Reason::FileEnd.at(0));
     }
-    Collected::Accepted { count }
+    Ok(count)
 }
 
 // The entry with this rule number, the first where there are several. In an accepted collection there is one at most.
-pub fn find(file: &[u8], rule: usize) -> Lookup
+pub fn find(file: &[u8], rule: usize) -> Option<usize>
     ensures { result ≡ entry_with file.now rule }
 {
-    let count = two_bytes_at(file, 0);
-    let mut i = 0;
-    while i < count {
-        if rule_number(file, i) == rule {
-            return Lookup::Entry(i);
-        }
-        i += 1;
-    }
-    Lookup::Absent
+    let count = count_of(file);
+    let i = basics::first_in(0, count, |i| rule_number(file, i) == rule);
+    if i < count { Some(i) } else { None }
 }

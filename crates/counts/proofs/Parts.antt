@@ -16,7 +16,7 @@ use Rattle.monitor.specs.Questions.{first_not_below}
 use Rattle.faults.specs.declared.Symbols.{Symbols}
 use Rattle.faults.specs.Steps.{trace_of, Inside}
 use Rattle.faults.proofs.AtMostTwo.{count_is}
-use Rattle.readings.specs.declared.Progress.{Progress}
+use Rattle.readings.specs.declared.answers.Progress.{Progress}
 use Rattle.readings.specs.Following.{Followed}
 use Rattle.readings.proofs.Traces.{passed_trace, trace_passed}
 use Rattle.readings.proofs.Following.{followed_count, followed_whole, count_end}

@@ -1,7 +1,6 @@
 -- A sent trace and a fault that strikes it, as the search hands them over.
 use Rattle.std.specs.Prelude.{◌≡◌, List, ◌++◌, ℕ, ◌+◌, ◌≤◌, length, take, drop}
 use Rattle.monitor.specs.Questions.{first_not_below}
-use Rattle.monitor.specs.declared.Shape.{Shape}
 use Rattle.faults.specs.declared.Fault.{Fault}
 use Rattle.faults.specs.Steps.{trace_of, Ranged}
 
@@ -9,8 +8,8 @@ use Rattle.faults.specs.Steps.{trace_of, Ranged}
 abbrev pub delivered_trace : List ℕ → ℕ → Fault → List ℕ
 delivered_trace w before f = take before w ++ (trace_of f.received ++ drop (before + f.sent.count) w)
 
--- a fault that strikes within the trace
-pub record FaultWithin (t : Shape) (w : List ℕ) (before : ℕ) (f : Fault) : Type 0 where
-  pub trace : first_not_below t.symbols w ≡ length w
-  pub ranged : Ranged t.symbols f
+-- a fault that strikes within a trace of k symbols
+pub record FaultWithin (k : ℕ) (w : List ℕ) (before : ℕ) (f : Fault) : Type 0 where
+  pub trace : first_not_below k w ≡ length w
+  pub ranged : Ranged k f
   pub within : before + f.sent.count ≤ length w

@@ -10,7 +10,8 @@ use Rattle.monitor.specs.Questions.{table_questions, question13, no_values, judg
 use Rattle.collection.specs.Contents.{count_of, collection_questions, collection_answer}
 use Rattle.writer.specs.Writing.{file_of, write_questions, write_answer}
 use Rattle.classes.specs.Classify.{class_list, classify_questions, classify_figures, classify_answer}
-use Rattle.readings.specs.Readings.{step_questions, step_figures, step_answer, trace_questions, trace_figures, trace_answer}
+use Rattle.readings.specs.Readings.{step_questions, step_figures, step_answer, trace_questions, trace_figures}
+use Rattle.readings.specs.Readings.{trace_answer}
 use Rattle.witness.specs.Figures.{FaultFigures}
 use Rattle.immunity.specs.Findings.{table_figures, fault_questions, fault_answer, fault_trace}
 use Rattle.immunity.specs.Findings.{CardAnswer, summary_figures, column_figures, card_answer}

@@ -1,6 +1,7 @@
 -- What the place of a refusal means: what stands there is wrong, and nothing before it is. Said by bytes, messages,
 -- states, blocks and entries, and by nothing that is computed to find the place.
-use Rattle.std.specs.Prelude.{◌≡◌, cond, List, [], ◌∷◌, ◌++◌, ◌↔◌, ℕ, zero, suc, ◌+◌, ◌*◌, ◌≤◌, ◌<◌, eqb, length, get_or}
+use Rattle.std.specs.Prelude.{◌≡◌, cond, List, [], ◌∷◌, ◌++◌, ◌↔◌, ℕ, zero, suc, ◌+◌, ◌*◌, ◌≤◌, ◌<◌, eqb, length}
+use Rattle.std.specs.Prelude.{get_or}
 use Rattle.theory.specs.Lists.{In}
 use Rattle.theory.specs.Automaton.{run, Reaches}
 use Rattle.theory.specs.Answer.{Question, Answer, refused}

@@ -9,13 +9,6 @@ pub fn last_alike(bytes: &[u8], at: usize) -> usize
     ensures inside { (at ≤ result)
         × (result < length bytes.now) }
 {
-    let byte = bytes[at];
-    let mut last = at;
-    while last + 1 < bytes.len() {
-        if bytes[last + 1] != byte {
-            return last;
-        }
-        last += 1;
-    }
-    last
+    let other = basics::first_in(at, bytes.len() - at, |i| bytes[i] != bytes[at]);
+    other - 1
 }

@@ -1,38 +1,35 @@
 // The states that are drawn not yet and settled all the same: their class is that of a verdict, good or bad.
 use crate::states;
-use output::Output;
+use std::io;
+use std::io::Write;
 use theory::STATE_LIMIT;
 
 // What a state that is drawn so and has this class is settled as: 1 true, 2 false; 0 where it is drawn true or false,
 // or where neither is settled.
 fn verdict(drawn: usize, class: u8) -> u8 {
-    if drawn != 0 {
-        return 0;
-    }
-    match class {
-        0 => 1,
-        1 => 2,
+    match (drawn, class) {
+        (0, 0) => 1,
+        (0, 1) => 2,
         _ => 0,
     }
 }
 
 // Writes what each state is settled as.
 fn write_verdicts(drawn: &[u8], classes: &[u8], verdicts: &mut [u8]) {
-    let n = basics::least_of(classes.len(), verdicts.len());
-    let mut q = 0;
-    while q < n {
-        verdicts[q] = verdict(basics::byte_at(drawn, q), classes[q]);
-        q += 1;
+    for (q, (place, class)) in verdicts.iter_mut().zip(classes).enumerate() {
+        *place = verdict(basics::byte_at(drawn, q), *class);
     }
 }
 
-// The states of a verdict behind these words, if it has any.
-fn verdict_states(out: Output, words: &[u8], verdicts: &[u8], verdict: u8) -> Output {
+// The states of a verdict on the same line, if it has any.
+fn verdict_states(out: &mut impl Write, verdicts: &[u8], verdict: u8) -> io::Result<()> {
     let first = states::next_state(verdicts, verdict, 0);
     if first >= verdicts.len() {
-        return out;
+        return Ok(());
     }
-    states::class_states(out.text(words), verdicts, verdict, first, false)
+    let word = if verdict == 1 { "true" } else { "false" };
+    write!(out, "settled {word}: ")?;
+    states::class_states(out, verdicts, verdict, first, usize::MAX)
 }
 
 fn has_state(verdicts: &[u8], verdict: u8) -> bool {
@@ -40,16 +37,20 @@ fn has_state(verdicts: &[u8], verdict: u8) -> bool {
 }
 
 // The line of a table's settled states, if it has any: those of true, then those of false.
-pub fn line(out: Output, drawn: &[u8], classes: &[u8]) -> Output {
+pub fn line(out: &mut impl Write, drawn: &[u8], classes: &[u8]) -> io::Result<()> {
     let mut area = [0u8; STATE_LIMIT];
     write_verdicts(drawn, classes, &mut area);
     let verdicts = basics::part(&area, 0, classes.len());
-    if has_state(verdicts, 1) {
-        let begun = verdict_states(out, b"  settled true: ", verdicts, 1);
-        return verdict_states(begun, b"; settled false: ", verdicts, 2).text(b"\n");
+    let has_true = has_state(verdicts, 1);
+    let has_false = has_state(verdicts, 2);
+    if !has_true && !has_false {
+        return Ok(());
     }
-    if has_state(verdicts, 2) {
-        return verdict_states(out, b"  settled false: ", verdicts, 2).text(b"\n");
+    write!(out, "  ")?;
+    verdict_states(out, verdicts, 1)?;
+    if has_true && has_false {
+        write!(out, "; ")?;
     }
-    out
+    verdict_states(out, verdicts, 2)?;
+    writeln!(out)
 }

@@ -4,78 +4,67 @@ ghost use Rattle.std.specs.Prelude.{◌≤◌, ◌<◌, length};
 
 use crate::runs;
 use faults::{Fault, Kind, Symbols};
-use output::Output;
-use readings::Count;
+use std::fmt::{Display, Formatter};
+use std::io::Write;
+use std::{fmt, io};
 use witness::Witness;
 
 // The columns of a line that a trace takes.
 const COLUMNS: usize = 36;
 
-// What one of the two traces has where the fault strikes, and what the other has there.
+// One of the two traces: what it has where the fault strikes, what the other has there, what it reads, and after how
+// many messages that verdict fell.
 #[derive(Clone, Copy)]
-struct Struck {
+struct Trace {
     here: Symbols,
     other: Symbols,
+    reading: usize,
+    count: Option<usize>,
 }
 
-// What is drawn: a witness with its fault step, by marks or by classes.
-#[derive(Clone, Copy)]
-struct Sketch {
-    witness: Witness,
-    fault: Fault,
+// What is drawn, by marks or by classes. The drawing has a place for each message before the fault (head), one for the
+// fault, and one for each message behind it (rest).
+#[derive(Drop)]
+struct Sketch<'a> {
+    sent: Trace,
+    received: Trace,
+    distance: usize,
     domain: usize,
+    head: &'a [u8],
+    rest: &'a [u8],
 }
 
 fn has_two_digits(symbols: Symbols) -> bool {
-    if symbols.first > 9 {
-        return true;
-    }
-    symbols.second > 9
+    symbols.first > 9 || symbols.second > 9
 }
 
-// A message in a column of two digits or one.
-fn message(out: Output, m: usize, wide: bool) -> Output {
-    if wide {
-        if m < 10 {
-            return out.text(b" ").number(m);
-        }
-    }
-    out.number(m)
-}
-
-fn no_message(out: Output, wide: bool) -> Output {
-    if wide {
-        return out.text(b"  ");
-    }
-    out.text(b" ")
-}
-
-// The first of the messages that a fault covers or delivers, if it has one.
-fn first_message(out: Output, symbols: Symbols, wide: bool) -> Output {
+// The first of the messages that a fault covers or delivers, if it has one, in so many columns.
+fn first_message(out: &mut impl Write, symbols: Symbols, columns: usize) -> io::Result<()> {
     if symbols.count == 0 {
-        return no_message(out, wide);
+        return write!(out, "{:columns$}", "");
     }
-    message(out, symbols.first, wide)
+    write!(out, "{:columns$}", symbols.first)
 }
 
-// The second of them, where one of the two traces has two.
-fn second_message(out: Output, symbols: Symbols, other: Symbols, wide: bool) -> Output {
-    if symbols.count == 2 {
-        return message(out.text(b" "), symbols.second, wide);
+// The second of them behind a space, where one of the two traces has two.
+fn second_message(out: &mut impl Write, trace: Trace, columns: usize) -> io::Result<()> {
+    if trace.here.count == 2 {
+        return write!(out, " {:columns$}", trace.here.second);
     }
-    if other.count == 2 {
-        return no_message(out.text(b" "), wide);
+    if trace.other.count == 2 {
+        return write!(out, " {:columns$}", "");
     }
-    out
+    Ok(())
 }
 
 // What a trace has where the fault strikes, in columns that the other trace's messages fit too.
-fn bracket(out: Output, struck: Struck) -> Output {
-    let here = struck.here;
-    let other = struck.other;
-    let wide = has_two_digits(here) | has_two_digits(other);
-    let begun = first_message(out.text(b"["), here, wide);
-    second_message(begun, here, other, wide).text(b"]")
+fn bracket(out: &mut impl Write, trace: Trace) -> io::Result<()> {
+    let wide = has_two_digits(trace.here) || has_two_digits(trace.other);
+    let columns = if wide { 2 } else { 1 };
+    write!(out, "[")?;
+    first_message(out, trace.here, columns)?;
+    second_message(out, trace, columns)?;
+    write!(out, "]")
 }
 
 // How many messages from `at` on are written as one item.
@@ -91,203 +80,48 @@ fn together(messages: &[u8], at: usize) -> usize
     1
 }
 
-// A drawing has a place for each message before the fault (head), one for the fault, and one for each message behind
-// it (rest). An item of it is the fault, a message, or equal messages in a row: how many places the item from place i
-// on has.
-fn item_size(head: &[u8], rest: &[u8], i: usize) -> usize
-    ensures { 0 < result }
-{
-    let fault = head.len();
-    if i < fault {
-        return together(head, i);
-    }
-    if i == fault {
-        return 1;
-    }
-    together(rest, i - fault - 1)
-}
-
-// The message at place i, which is not the fault.
-fn message_at(head: &[u8], rest: &[u8], i: usize) -> usize {
-    let fault = head.len();
-    if i <= fault {
-        return basics::byte_at(head, i);
-    }
-    basics::byte_at(rest, i - fault - 1)
-}
-
-// The columns that an item takes at most.
-fn item_width(head: &[u8], rest: &[u8], i: usize, size: usize) -> usize
-    ensures { result ≤ 15 }
-{
-    if i == head.len() {
-        return 8;
-    }
-    if size > 1 {
-        return 15;
-    }
-    if message_at(head, rest, i) > 9 {
-        return 3;
-    }
-    2
-}
-
-// Where the line that begins at a place ends: as many items as it takes.
-fn line_end(head: &[u8], rest: &[u8], from: usize, end: usize) -> usize
-    requires { from < end }
-    ensures { (from < result)
-        × (result ≤ end) }
-{
-    let mut used = 0;
-    let mut i = from;
-    while i < end {
-        let size = basics::least_of(item_size(head, rest, i), end - i);
-        let width = item_width(head, rest, i, size);
-        if used + width > COLUMNS {
-            return i;
-        }
-        used += width;
-        i += size;
-    }
-    i
-}
-
-fn item(out: Output, head: &[u8], rest: &[u8], struck: Struck, i: usize, size: usize) -> Output {
-    let parted = out.text(b" ");
-    if i == head.len() {
-        return bracket(parted, struck);
-    }
-    let written = parted.number(message_at(head, rest, i));
-    if size > 1 {
-        return written.text(b" (").number(size).text(b" times)");
-    }
-    written
-}
-
-// The items from a place up to another.
-fn items(out: Output, head: &[u8], rest: &[u8], struck: Struck, from: usize, to: usize) -> Output {
-    let mut after = out;
-    let mut i = from;
-    while i < to {
-        let size = basics::least_of(item_size(head, rest, i), to - i);
-        after = item(after, head, rest, struck, i, size);
-        i += size;
-    }
-    after
-}
-
-// A number, and spaces up to three columns.
-fn three_columns(out: Output, n: usize) -> Output {
-    let written = out.number(n);
-    if n < 10 {
-        return written.text(b"  ");
-    }
-    if n < 100 {
-        return written.text(b" ");
-    }
-    written
-}
-
 // A reading by its name: a mark in domain 3, a class in domain 6.
-fn reading_word(out: Output, domain: usize, reading: usize) -> Output {
-    if domain != 3 {
-        return printing::class_word(out, reading, 0);
-    }
-    match reading {
-        0 => out.text(b"not yet"),
-        1 => out.text(b"true"),
-        _ => out.text(b"false"),
+#[derive(Drop)]
+struct ReadingWord {
+    domain: usize,
+    reading: usize,
+}
+
+impl Display for ReadingWord {
+    fn fmt<W: fmt::Write>(&self, f: &mut Formatter<W>) -> fmt::Result {
+        match (self.domain, self.reading) {
+            (3, 0) => write!(f, "not yet"),
+            (3, 1) => write!(f, "true"),
+            (3, _) => write!(f, "false"),
+            (_, class) => write!(f, "{}", printing::class_of(class)),
+        }
     }
 }
 
 // The left margin of a sent trace. In the first line the fault's name stands there already.
-fn sent_margin(out: Output, from: usize) -> Output {
+fn sent_margin(out: &mut impl Write, from: usize) -> io::Result<()> {
     if from > 0 {
-        return out.text(b"                  sent     ");
+        write!(out, "                  ")?;
     }
-    out.text(b"sent     ")
+    write!(out, "sent     ")
 }
 
 // The left margin of a received trace: the distance in the first line.
-fn received_margin(out: Output, w: Witness, from: usize) -> Output {
+fn received_margin(out: &mut impl Write, distance: usize, from: usize) -> io::Result<()> {
     if from > 0 {
-        return out.text(b"                  received ");
+        return write!(out, "                  received ");
     }
-    three_columns(out.text(b"    distance "), w.distance).text(b"  received ")
-}
-
-// After how many messages the verdict fell, if it did.
-fn fallen(out: Output, count: Count) -> Output {
-    match count {
-        Count::After(n) => out.text(b" after ").number(n),
-        Count::Never => out,
-    }
-}
-
-// The end of a line: the reading, and when its verdict fell; or a sign that the trace goes on.
-fn line_close(out: Output, last: bool, domain: usize, reading: usize, count: Count) -> Output {
-    if last {
-        return fallen(reading_word(out.text(b"  "), domain, reading), count).text(b"\n");
-    }
-    out.text(b" ..\n")
-}
-
-// A line of the sent trace and one of the received trace, from a place up to another. The last two have the readings.
-fn two_lines(
-    out: Output,
-    head: &[u8],
-    rest: &[u8],
-    sketch: Sketch,
-    from: usize,
-    to: usize,
-    last: bool,
-) -> Output {
-    let witness = sketch.witness;
-    let domain = sketch.domain;
-    let fault = sketch.fault;
-    let covered = fault.sent;
-    let delivered = fault.received;
-    let struck = Struck {
-        here: covered,
-        other: delivered,
-    };
-    let sent = items(sent_margin(out, from), head, rest, struck, from, to);
-    let counts = witness.counts;
-    let sent_count = counts.sent;
-    let received_count = counts.received;
-    let between = line_close(sent, last, domain, witness.sent, sent_count);
-    let turned = Struck {
-        here: delivered,
-        other: covered,
-    };
-    let margin = received_margin(between, witness, from);
-    let received = items(margin, head, rest, turned, from, to);
-    line_close(received, last, domain, witness.received, received_count)
-}
-
-// The whole drawing, which ends at a place.
-fn lines(out: Output, head: &[u8], rest: &[u8], sketch: Sketch, end: usize) -> Output {
-    let mut after = out;
-    let mut from = 0;
-    while from < end {
-        let to = line_end(head, rest, from, end);
-        after = two_lines(after, head, rest, sketch, from, to, to == end);
-        from = to;
-    }
-    after
+    write!(out, "    distance {distance:<3}  received ")
 }
 
 // The replacement of a witness, or the neighbour of the first message that the fault covers.
 fn second_symbol(sent: &[u8], w: Witness) -> usize
     requires { w.before < length sent.now }
 {
-    let at = w.before;
-    let kind = w.kind;
-    match kind {
-        Kind::Loss => 0,
+    match w.kind {
+        Kind::Loss | Kind::Repeat => 0,
         Kind::Corruption => w.replacement,
-        Kind::Repeat => 0,
-        Kind::Swap => basics::byte_at(sent, at + 1),
+        Kind::Swap => basics::byte_at(sent, w.before + 1),
     }
 }
 
@@ -295,27 +129,154 @@ fn second_symbol(sent: &[u8], w: Witness) -> usize
 fn fault_step(sent: &[u8], w: Witness) -> Fault
     requires { w.before < length sent.now }
 {
-    let at = w.before;
-    let kind = w.kind;
-    faults::fault_of(kind, basics::byte_at(sent, at), second_symbol(sent, w))
+    let first = basics::byte_at(sent, w.before);
+    faults::fault_of(w.kind, first, second_symbol(sent, w))
+}
+
+impl Sketch<'_> {
+    // An item of the drawing is the fault, a message, or equal messages in a row: how many places the item from place i
+    // on has.
+    fn item_size(&self, i: usize) -> usize
+        ensures { 0 < result }
+    {
+        let fault = self.head.len();
+        if i < fault {
+            return together(self.head, i);
+        }
+        if i == fault {
+            return 1;
+        }
+        together(self.rest, i - fault - 1)
+    }
+
+    // The message at place i, which is not the fault.
+    fn message_at(&self, i: usize) -> usize {
+        let fault = self.head.len();
+        if i <= fault {
+            return basics::byte_at(self.head, i);
+        }
+        basics::byte_at(self.rest, i - fault - 1)
+    }
+
+    // The columns that an item takes at most.
+    fn item_width(&self, i: usize, size: usize) -> usize
+        ensures { result ≤ 15 }
+    {
+        if i == self.head.len() {
+            return 8;
+        }
+        if size > 1 {
+            return 15;
+        }
+        if self.message_at(i) > 9 { 3 } else { 2 }
+    }
+
+    // Where the line that begins at a place ends: as many items as it takes.
+    fn line_end(&self, from: usize, end: usize) -> usize
+        requires { from < end }
+        ensures { (from < result)
+            × (result ≤ end) }
+    {
+        let mut used = 0;
+        let mut i = from;
+        // A while: a turn goes on behind an item.
+        while i < end {
+            let size = basics::least_of(self.item_size(i), end - i);
+            let width = self.item_width(i, size);
+            if used + width > COLUMNS {
+                return i;
+            }
+            used += width;
+            i += size;
+        }
+        i
+    }
+
+    fn item(&self, out: &mut impl Write, trace: Trace, i: usize, size: usize) -> io::Result<()> {
+        write!(out, " ")?;
+        if i == self.head.len() {
+            return bracket(out, trace);
+        }
+        write!(out, "{}", self.message_at(i))?;
+        if size > 1 {
+            write!(out, " ({size} times)")?;
+        }
+        Ok(())
+    }
+
+    // The items from a place up to another.
+    fn items(&self, out: &mut impl Write, trace: Trace, from: usize, to: usize) -> io::Result<()> {
+        let mut i = from;
+        // A while: a turn goes on behind an item.
+        while i < to {
+            let size = basics::least_of(self.item_size(i), to - i);
+            self.item(out, trace, i, size)?;
+            i += size;
+        }
+        Ok(())
+    }
+
+    // The end of a line that ends at a place: the reading, and when its verdict fell; or a sign that the trace goes on.
+    fn close(&self, out: &mut impl Write, trace: Trace, to: usize, end: usize) -> io::Result<()> {
+        if to < end {
+            return writeln!(out, " ..");
+        }
+        let word = ReadingWord {
+            domain: self.domain,
+            reading: trace.reading,
+        };
+        write!(out, "  {word}")?;
+        if let Some(n) = trace.count {
+            write!(out, " after {n}")?;
+        }
+        writeln!(out)
+    }
+
+    // The whole drawing, which ends at a place: lines of the sent trace and of the received trace by turns.
+    fn lines(&self, out: &mut impl Write, end: usize) -> io::Result<()> {
+        let mut from = 0;
+        // A while: a turn goes on behind a line.
+        while from < end {
+            let to = self.line_end(from, end);
+            sent_margin(out, from)?;
+            self.items(out, self.sent, from, to)?;
+            self.close(out, self.sent, to, end)?;
+            received_margin(out, self.distance, from)?;
+            self.items(out, self.received, from, to)?;
+            self.close(out, self.received, to, end)?;
+            from = to;
+        }
+        Ok(())
+    }
 }
 
 // The witness whose sent trace is given. Both tests hold of every witness.
-pub fn draw(out: Output, sent: &[u8], witness: Witness, domain: usize) -> Output {
+pub fn draw(out: &mut impl Write, sent: &[u8], witness: Witness, domain: usize) -> io::Result<()> {
     let before = witness.before;
     if before < sent.len() {
         let fault = fault_step(sent, witness);
         let covered = fault.sent.count;
         if covered <= sent.len() - before {
-            let head = &sent[0..before];
-            let rest = &sent[before + covered..];
             let sketch = Sketch {
-                witness,
-                fault,
+                sent: Trace {
+                    here: fault.sent,
+                    other: fault.received,
+                    reading: witness.sent,
+                    count: witness.counts.sent,
+                },
+                received: Trace {
+                    here: fault.received,
+                    other: fault.sent,
+                    reading: witness.received,
+                    count: witness.counts.received,
+                },
+                distance: witness.distance,
                 domain,
+                head: &sent[0..before],
+                rest: &sent[before + covered..],
             };
-            return lines(out, head, rest, sketch, before + 1 + rest.len());
+            return sketch.lines(out, before + 1 + (sent.len() - before - covered));
         }
     }
-    out
+    Ok(())
 }

@@ -1,5 +1,5 @@
 -- The cheapest of some fault steps, put together from those of parts of them.
-use mathlib.Core.Path.{◌≡◌, sym, ap, ap₂, ◌∙◌, subst}
+use mathlib.Core.Path.{◌≡◌, sym, ap, ◌∙◌, subst}
 use mathlib.Core.List.{List}
 use mathlib.Core.Logic.{◌⊎◌, inl, inr, ⊎_elim}
 use Prim.Native.Nat.{ℕ, ◌+◌, ◌≤◌, ◌<◌, min}
@@ -17,11 +17,6 @@ use Rattle.faults.specs.Looks.{Upto}
 
 plus_most : (l e : ℕ) → plus l e ≤ never
 plus_most l e = omega arith
-
--- by what the calls answer: the states x and y after the step, the symbols l that it covers, the entry e
-pub cost_is : (g : Automaton) (square : List ℕ) (p : ℕ) (s : FaultStep) {x y l e : ℕ}
-    → x ≡ run g p s.sent → y ≡ run g p s.received → l ≡ length s.sent → e ≡ entry square x y → plus l e ≡ cost_of g square p s
-cost_is g square p s sent received long held = ap₂ plus long (held ∙ ap₂ (entry square) sent received)
 
 -- ---- the cheapest of some steps, as loops find it
 
@@ -75,9 +70,6 @@ module _ {g : Automaton} {square : List ℕ} {p : ℕ} where
   -- ---- those of 0, 1, .. i - 1, and then those of i, within what is left of the bound
 
   module _ {These : ℕ → FaultStep → Type 0} {bound : ℕ} where
-    pub upto_none : {i : ℕ} → ((j : ℕ) → j < i → (s : FaultStep) → These j s → ⊥) → Cheapest g square p (Upto These i) bound never
-    upto_none none = cheapest_above (λ s h. absurd (none h.0 h.1 s h.2))
-
     pub upto_goes_on : {i a b c : ℕ} → Cheapest g square p (Upto These i) bound a → Cheapest g square p (These i) (min bound a) b → c ≡ min b a
         → Cheapest g square p (Upto These (i + 1)) bound c
     upto_goes_on {i} {a} {b} {c} x y e = rw e (record {

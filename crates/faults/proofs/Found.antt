@@ -1,46 +1,41 @@
 -- The search for the first fault step with a cost.
 use mathlib.Core.Path.{◌≡◌, sym, ap, ◌∙◌}
-use mathlib.Core.List.{List, ◌∷◌}
-use mathlib.Core.Option.{none, some}
-use Prim.Native.Nat.{ℕ, ◌<◌}
-use native.Mathlib.Omega.{arith}
+use mathlib.Core.List.{List, [], ◌∷◌}
+use mathlib.Core.Option.{some}
+use Prim.Native.Nat.{ℕ}
 use borrow.Author.Tests.{eq-eqb, ne_eqb}
 use Rattle.theory.specs.Lists.{find}
 use Rattle.theory.specs.Automaton.{Automaton}
 use Rattle.theory.specs.Faults.{FaultStep, steps}
 use Rattle.theory.proofs.Below.{clash}
 use Rattle.theory.proofs.Lists.{none_passes}
-use Rattle.theory.proofs.Faults.{steps_held}
-use Rattle.faults.specs.declared.Cursor.{Cursor}
 use Rattle.faults.specs.Steps.{cost_of, costing, Attained}
 use Rattle.faults.specs.Looks.{OfSet}
-use Rattle.faults.specs.Rest.{Placed, step_at, rest}
-use Rattle.faults.proofs.Rest.{Seeking, seek, seek_finds, seek_on}
 
--- some step has the cost
-module _ {g : Automaton} {square : List ℕ} {p cost : ℕ} (set k : ℕ) (some-step : Attained g square p (OfSet set k) cost) where
-  some_costs : find (costing g square p cost) (steps set k) ≡ none → ⊥
-  some_costs e =
+-- of these fault steps the first with the cost is the first of the set
+pub record Seeking (g : Automaton) (square : List ℕ) (p cost set : ℕ) (xs : List FaultStep) : Type 0 where
+  pub same : find (costing g square p cost) xs ≡ find (costing g square p cost) (steps set g.symbols)
+
+module _ {g : Automaton} {square : List ℕ} {p cost set : ℕ} where
+  pub seek_begins : {xs : List FaultStep} → xs ≡ steps set g.symbols → Seeking g square p cost set xs
+  seek_begins e = record { same = ap (find (costing g square p cost)) e }
+
+  -- the first of them is s, and x is its cost
+  module _ {xs ys : List FaultStep} {s : FaultStep} {x : ℕ} (here : Seeking g square p cost set xs) (first : xs ≡ s ∷ ys)
+      (is_cost : x ≡ cost_of g square p s) where
+    pub seek_finds : x ≡ cost → find (costing g square p cost) (steps set g.symbols) ≡ some s
+    unfolding find
+    seek_finds e = sym here.same ∙ ap (find (costing g square p cost)) first ∙ rw (eq-eqb (cost_of g square p s) cost (sym is_cost ∙ e))
+
+    pub seek_on : (x ≡ cost → ⊥) → Seeking g square p cost set ys
+    unfolding find
+    seek_on n = record {
+      same = sym (ap (find (costing g square p cost)) first ∙ rw (ne_eqb (cost_of g square p s) cost (λ e. n (is_cost ∙ e)))) ∙ here.same;
+    }
+
+  -- some step has the cost, so that the end is not reached
+  pub seek_ends : {xs : List FaultStep} → Seeking g square p cost set xs → xs ≡ [] → Attained g square p (OfSet set g.symbols) cost → ⊥
+  unfolding find
+  seek_ends here end some-step =
       clash (eq-eqb (cost_of g square p some-step.step) cost some-step.costs)
-      (none_passes (costing g square p cost) (steps set k) e some-step.step some-step.of)
-
-  some_symbol : 0 < k
-  some_symbol = omega (arith, (steps_held set k some-step.step some-step.of).first_in)
-
-  pub cost_begins : (at : Cursor) → ((k : ℕ) → 0 < k → rest set k at ≡ steps set k) → ((k : ℕ) → 0 < k → Placed k at)
-      → Seeking (costing g square p cost) set k at
-  cost_begins at e placed = seek some_costs at (placed k some_symbol) (ap (find (costing g square p cost)) (e k some_symbol))
-
-  -- x is the cost of the step s that the code has made for the one at the cursor
-  module _ {at : Cursor} {x : ℕ} {s : FaultStep} (here : Seeking (costing g square p cost) set k at)
-      (is_cost : x ≡ cost_of g square p s) (is-step : s ≡ step_at at) where
-    costs : x ≡ cost_of g square p (step_at at)
-    costs = is_cost ∙ ap (cost_of g square p) is-step
-
-    pub cost_goes_on : (x ≡ cost → ⊥) → (to : Cursor) → rest set k at ≡ step_at at ∷ rest set k to → Placed k to → Seeking (costing g square p cost) set k to
-    cost_goes_on n to next placed =
-        seek_on here to next some_costs placed (ne_eqb (cost_of g square p (step_at at)) cost (λ e. n (costs ∙ e)))
-
-    pub cost_found : x ≡ cost → {t : FaultStep} → t ≡ step_at at → find (costing g square p cost) (steps set k) ≡ some t
-    cost_found e {t} same =
-        seek_finds here (eq-eqb (cost_of g square p (step_at at)) cost (sym costs ∙ e)) ∙ ap (λ (u : FaultStep). some u) (sym same)
+      (none_passes (costing g square p cost) (steps set g.symbols) (sym here.same ∙ ap (find (costing g square p cost)) end) some-step.step some-step.of)

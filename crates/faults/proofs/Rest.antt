@@ -1,21 +1,20 @@
--- The fault steps from a cursor on: all of them at the beginning, one less at the next, none behind the last; and the search for the first that passes a test.
+-- The fault steps from a cursor on: all of them at the beginning, one less at the next, none behind the last.
 use mathlib.Core.Path.{◌≡◌, refl, sym, ap, ◌∙◌}
 use mathlib.Core.Bool.{Bool, true, false}
 use mathlib.Core.List.{List, [], ◌∷◌, ◌++◌, append_assoc, append-nil}
 use mathlib.Core.Logic.{⊎_elim}
-use mathlib.Core.Option.{none, some}
+use Rattle.std.specs.Prelude.{cond, Option, Some}
 use Prim.Native.Nat.{ℕ, zero, suc, ◌+◌, ◌-◌, ◌≤◌, ◌<◌}
-use native.Mathlib.Nat.{le_refl}
 use native.Mathlib.Numerals.{add-one}
 use native.Mathlib.Omega.{arith}
-use lib.ListN.{length}
-use borrow.Author.Tests.{lt-ltb, le-ltb}
-use Rattle.theory.specs.Lists.{find, each}
+use Rattle.theory.specs.Lists.{each}
 use Rattle.theory.specs.Faults.{FaultStep, kinds, seconds, holds, steps}
 use Rattle.theory.proofs.Below.{lt_or_le}
 use Rattle.faults.specs.declared.Cursor.{Cursor}
-use Rattle.faults.specs.Rest.{step_with, steps_from, steps_if_held, following, between, steps_onward, Placed, step_at, rest}
-use Rattle.faults.proofs.ByKind.{second_some}
+use Rattle.faults.specs.declared.Kind.{Kind}
+use Rattle.faults.specs.Kinds.{rank_of}
+use Rattle.faults.specs.Rest.{step_with, steps_from, steps_if_held, following, between, steps_onward, Placed, step_at, left}
+use Rattle.faults.proofs.ByKind.{rank_in}
 
 -- ---- the lists of numbers from one on
 
@@ -59,101 +58,71 @@ module _ (k : ℕ) where
   opened rank {a} l =
       between_first (steps_from k rank) l ∙ ap (λ (xs : List FaultStep). xs ++ later_symbols rank a) (each_between (step_with rank a) (seconds rank k))
 
-module _ (set k : ℕ) where
-  abbrev laid : Cursor → List FaultStep
-  laid at = from_symbol k at.rank at.first at.second ++ steps_onward set k (at.rank + 1)
+-- ---- the next step
 
-  rest_is : (at : Cursor) → at.rank < kinds → rest set k at ≡ laid at
-  unfolding rest
-  rest_is at l = rw (lt-ltb at.rank kinds l)
+module _ (set k : ℕ) (at : Cursor) (placed : Placed k at) where
+  abbrev rank : ℕ
+  rank = rank_of at.kind
 
-  pub rest_end : (at : Cursor) → kinds ≤ at.rank → rest set k at ≡ []
-  unfolding rest
-  rest_end at l = rw (le-ltb at.rank kinds l)
+  -- one step at the cursor, and then these
+  abbrev Then : List FaultStep → Type 0
+  Then xs = left set k (Some at) ≡ step_at at ∷ xs
 
-  -- ---- the next step
+  pub next_second : Then (left set k (Some (record { kind = at.kind; first = at.first; second = at.second + 1 })))
+  next_second =
+      ap (λ (xs : List FaultStep). (xs ++ later_symbols k rank at.first) ++ steps_onward set k (rank + 1))
+      (between_first (step_with rank at.first) placed.second_in)
 
-  module _ (at : Cursor) (low : at.rank < kinds) (placed : Placed k at) where
-    abbrev later_kinds : List FaultStep
-    later_kinds = steps_onward set k (at.rank + 1)
+  module _ (last : seconds (rank_of at.kind) k ≤ at.second + 1) where
+    symbol_done_lem : Then (later_symbols k rank at.first ++ steps_onward set k (rank + 1))
+    symbol_done_lem = next_second ∙ rw (between_none (step_with rank at.first) last)
 
-    -- one step at the cursor, whatever comes behind it
-    one_less : rest set k at ≡ step_at at ∷ (from_symbol k at.rank at.first (at.second + 1) ++ later_kinds)
-    one_less =
-        rest_is at low
-        ∙ ap (λ (xs : List FaultStep). (xs ++ later_symbols k at.rank at.first) ++ later_kinds)
-        (between_first (step_with at.rank at.first) (placed.second_in low))
+    pub next_first : at.first + 1 < k → Then (left set k (Some (record { kind = at.kind; first = at.first + 1; second = 0 })))
+    next_first l = symbol_done_lem ∙ ap (λ (xs : List FaultStep). step_at at ∷ (xs ++ steps_onward set k (rank + 1))) (opened k rank l)
 
-    moved : (to : Cursor) → to.rank < kinds → step_at at ∷ laid to ≡ step_at at ∷ rest set k to
-    moved to l = ap (λ (xs : List FaultStep). step_at at ∷ xs) (sym (rest_is to l))
-
-    pub next_second : rest set k at ≡ step_at at ∷ rest set k (record { rank = at.rank; first = at.first; second = at.second + 1 })
-    next_second = one_less ∙ moved (record { rank = at.rank; first = at.first; second = at.second + 1 }) low
-
-    module _ (last : seconds at.rank k ≤ at.second + 1) where
-      symbol_done_lem : rest set k at ≡ step_at at ∷ (later_symbols k at.rank at.first ++ later_kinds)
-      symbol_done_lem = one_less ∙ rw (between_none (step_with at.rank at.first) last)
-
-      pub next_first : at.first + 1 < k → rest set k at ≡ step_at at ∷ rest set k (record { rank = at.rank; first = at.first + 1; second = 0 })
-      next_first l =
-          symbol_done_lem
-          ∙ ap (λ (xs : List FaultStep). step_at at ∷ (xs ++ later_kinds)) (opened k at.rank l)
-          ∙ moved (record { rank = at.rank; first = at.first + 1; second = 0 }) low
-
-      pub next_rank : k ≤ at.first + 1 → (r : Cursor) → rest set k r ≡ steps_onward set k (at.rank + 1) → rest set k at ≡ step_at at ∷ rest set k r
-      next_rank l r e = symbol_done_lem ∙ rw (between_none (steps_from k at.rank) l, e)
+    pub next_kind : k ≤ at.first + 1 → (next : Option Cursor) → left set k next ≡ steps_onward set k (rank_of at.kind + 1) → Then (left set k next)
+    next_kind l next e = symbol_done_lem ∙ rw (between_none (steps_from k rank) l, e)
 
 -- ---- the first step of the kinds from a rank on
 
--- the set lacks the kinds passed, and no symbol is passed
-pub record Fresh (set rank : ℕ) (at : Cursor) : Type 0 where
-  pub first_none : at.first ≡ 0
-  pub second_none : at.second ≡ 0
-  pub same : (k : ℕ) → steps_onward set k at.rank ≡ steps_onward set k rank
+-- at the first symbol of a kind
+abbrev pub opening : Kind → Cursor
+opening kind = record { kind = kind; first = 0; second = 0 }
 
-module _ {set rank : ℕ} {at : Cursor} (f : Fresh set rank at) where
-  pub fresh_placed : (k : ℕ) → 0 < k → Placed k at
-  fresh_placed k h = rw (f.first_none, f.second_none) (record { first_in = h; second_in = λ low. second_some at.rank low h })
+-- the set lacks the kinds from this rank up to i
+abbrev pub Lacked : ℕ → ℕ → ℕ → Type 0
+Lacked set rank i = rank ≤ i → (k : ℕ) → steps_onward set k i ≡ steps_onward set k rank
 
-  pub fresh_held : at.rank < kinds → holds set at.rank ≡ true → (k : ℕ) → 0 < k → rest set k at ≡ steps_onward set k rank
-  fresh_held l e k h =
-      let of : steps_if_held set k at.rank ≡ from_symbol k at.rank 0 0 = rw e (each_between (steps_from k at.rank) k ∙ opened k at.rank h) in
-      rest_is set k at l
-      ∙ rw (f.first_none, f.second_none) (ap (λ (xs : List FaultStep). xs ++ steps_onward set k (at.rank + 1)) (sym of))
-      ∙ sym (between_first (steps_if_held set k) l)
-      ∙ f.same k
+module _ (set rank : ℕ) where
+  pub lacked_held : {i : ℕ} → Lacked set rank i → (kind : Kind) → rank_of kind ≡ i → rank ≤ i → holds set (rank_of kind) ≡ true
+      → (k : ℕ) → 0 < k → left set k (Some (opening kind)) ≡ steps_onward set k rank
+  lacked_held lacked kind is l e k h =
+      let of : steps_if_held set k (rank_of kind) ≡ from_symbol k (rank_of kind) 0 0 =
+      rw e (each_between (steps_from k (rank_of kind)) k ∙ opened k (rank_of kind) h) in
+      ap (λ (xs : List FaultStep). xs ++ steps_onward set k (rank_of kind + 1)) (sym of)
+      ∙ sym (between_first (steps_if_held set k) (rank_in kind))
+      ∙ ap (steps_onward set k) is
+      ∙ lacked l k
 
-  pub fresh_lacked : at.rank < kinds → holds set at.rank ≡ false → Fresh set rank (record { rank = at.rank + 1; first = at.first; second = at.second })
-  fresh_lacked l e =
-      record { first_none = f.first_none; second_none = f.second_none; same = λ k. sym (between_first (steps_if_held set k) l ∙ rw e) ∙ f.same k }
+  pub lacked_on : {i : ℕ} → Lacked set rank i → i < kinds → (rank ≤ i → holds set i ≡ false) → Lacked set rank (i + 1)
+  lacked_on {i} lacked l lack m k =
+      ⊎_elim (λ (h : i < rank). (let e : i + 1 ≡ rank = omega (arith, h, m) in ap (steps_onward set k) e))
+      (λ (h : rank ≤ i). sym (between_first (steps_if_held set k) l ∙ rw (lack h)) ∙ lacked h k)
+      (lt_or_le i rank)
 
-  pub fresh_end : kinds ≤ at.rank → (k : ℕ) → rest set k at ≡ steps_onward set k rank
-  fresh_end l k = rest_end set k at l ∙ sym (between_none (steps_if_held set k) l) ∙ f.same k
+  pub lacked_end : {i : ℕ} → Lacked set rank i → kinds ≤ i → rank ≤ kinds → (k : ℕ) → [] ≡ steps_onward set k rank
+  lacked_end {i} lacked l m k = sym (between_none (steps_if_held set k) l) ∙ lacked (omega (arith, l, m)) k
 
--- ---- the first step that passes a test
+-- those of all kinds
+pub all_onward : (set k : ℕ) → steps_onward set k 0 ≡ steps set k
+unfolding steps
+all_onward set k = sym (each_between (steps_if_held set k) kinds)
 
--- at a step, and no step before it passes
-pub record Seeking (f : FaultStep → Bool) (set k : ℕ) (at : Cursor) : Type 0 where
-  pub low : at.rank < kinds
-  pub placed : Placed k at
-  pub same : find f (rest set k at) ≡ find f (steps set k)
-
-module _ {f : FaultStep → Bool} {set k : ℕ} where
-  -- where some step of the set passes, the end is not reached
-  pub seek : (find f (steps set k) ≡ none → ⊥) → (at : Cursor) → Placed k at → find f (rest set k at) ≡ find f (steps set k) → Seeking f set k at
-  unfolding find
-  seek passes at p e =
-      record { low = ⊎_elim (λ l. l) (λ l. absurd (passes (sym e ∙ ap (find f) (rest_end set k at l)))) (lt_or_le at.rank kinds); placed = p; same = e }
-
-  module _ {at : Cursor} (s : Seeking f set k at) where
-    pub seek_finds : f (step_at at) ≡ true → find f (steps set k) ≡ some (step_at at)
-    unfolding find
-    seek_finds e = sym s.same ∙ ap (find f) (one_less set k at s.low s.placed) ∙ rw e
-
-    module _ (to : Cursor) (next : rest set k at ≡ step_at at ∷ rest set k to) where
-      pub seek_on : (find f (steps set k) ≡ none → ⊥) → Placed k to → f (step_at at) ≡ false → Seeking f set k to
-      unfolding find
-      seek_on passes p e = seek passes to p (sym (ap (find f) next ∙ rw e) ∙ s.same)
-
-      pub seek_less : length (rest set k to) < length (rest set k at)
-      seek_less = rw next (le_refl _)
+-- where there is no symbol there is no step
+pub no_symbols : (set : ℕ) → steps set 0 ≡ []
+unfolding steps each
+no_symbols set = rw (cond_same (holds set 0), cond_same (holds set 1), cond_same (holds set 2), cond_same (holds set 3))
+  where
+    cond_same : (b : Bool) → cond {A = List FaultStep} b [] [] ≡ []
+    cond_same true = refl
+    cond_same false = refl

@@ -1,8 +1,10 @@
 -- The fault steps of a set from a cursor on, in the written order.
-use Rattle.std.specs.Prelude.{cond, List, [], ◌∷◌, ◌++◌, ℕ, zero, suc, ◌+◌, ◌-◌, ◌<◌, ltb}
+use Rattle.std.specs.Prelude.{cond, List, [], ◌∷◌, ◌++◌, ℕ, zero, suc, ◌+◌, ◌-◌, ◌<◌, Option, None, Some}
+use Rattle.std.specs.Option.{ForSome}
 use Rattle.theory.specs.Lists.{each}
 use Rattle.theory.specs.Faults.{FaultStep, kinds, step_of, seconds, holds, steps_of_kind}
 use Rattle.faults.specs.declared.Cursor.{Cursor}
+use Rattle.faults.specs.Kinds.{rank_of}
 
 -- ---- the steps of a set, kind by kind and symbol by symbol
 
@@ -36,20 +38,24 @@ steps_onward set k rank = between rank kinds (steps_if_held set k)
 
 -- ---- from a cursor on
 
--- the symbols at a cursor are among k; behind the last kind there is no second one
+-- the symbols at a cursor are among k
 pub record Placed (k : ℕ) (at : Cursor) : Type 0 where
   pub first_in : at.first < k
-  pub second_in : at.rank < kinds → at.second < seconds at.rank k
+  pub second_in : at.second < seconds (rank_of at.kind) k
+
+-- those at the next cursor, if there is one
+abbrev pub PlacedNext : ℕ → Option Cursor → Type 0
+PlacedNext k next = ForSome next (Placed k)
 
 -- the fault step at a cursor
 abbrev pub step_at : Cursor → FaultStep
-step_at at = step_of at.rank at.first at.second
+step_at at = step_of (rank_of at.kind) at.first at.second
 
--- the fault steps from a cursor on: at its symbol, at later symbols of its kind, of later kinds; behind them none
-unfoldable pub rest : ℕ → ℕ → Cursor → List FaultStep
-rest set k at =
-    cond (ltb at.rank kinds)
-    ((between at.second (seconds at.rank k) (step_with at.rank at.first)
-    ++ between (at.first + 1) k (steps_from k at.rank))
-    ++ steps_onward set k (at.rank + 1))
-    []
+-- the fault steps from the next cursor on: at its symbol, at later symbols of its kind, of later kinds; behind the last
+-- there is none
+abbrev pub left : ℕ → ℕ → Option Cursor → List FaultStep
+left set k None = []
+left set k (Some at) =
+    (between at.second (seconds (rank_of at.kind) k) (step_with (rank_of at.kind) at.first)
+    ++ between (at.first + 1) k (steps_from k (rank_of at.kind)))
+    ++ steps_onward set k (rank_of at.kind + 1)

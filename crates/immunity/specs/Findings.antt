@@ -1,20 +1,19 @@
 -- The fault question and the card.
-use Rattle.std.specs.Prelude.{List, [], ◌∷◌, ◌++◌, ℕ, ◌^◌}
-use Rattle.std.proofs.Math.Option.{Option, none, some}
+use Rattle.std.specs.Prelude.{Result, Ok, Err, Option as Maybe, List, [], ◌∷◌, ◌++◌, ℕ, ◌^◌}
+use Rattle.std.proofs.Math.Option.{Option}
 use Rattle.theory.specs.Answer.{Question, Answer, answered, asks}
 use Rattle.theory.specs.Monitor.{Monitor, reading, monitorability}
 use Rattle.theory.specs.Faults.{kinds}
 use Rattle.theory.specs.Lists.{each}
 use Rattle.theory.specs.Series.{Series}
 use Rattle.theory.specs.Computed.{first_witness}
-use Rattle.basics.specs.Refusals.{refusal}
+use Rattle.basics.specs.declared.refusal.Refusal.{Refusal}
+use Rattle.basics.specs.Refusals.{refusal, answer_by}
 use Rattle.monitor.specs.Format.{monitor_of}
 use Rattle.monitor.specs.Questions.{table_questions, question9, question10}
-use Rattle.witness.specs.Figures.{FaultFigures, witness_figures, witness_trace, room_questions, witness_values}
-use Rattle.immunity.specs.declared.Finding.{Finding}
-use Rattle.immunity.specs.declared.Finding.TheVariants.{Refused, Immune, Vulnerable}
-use Rattle.immunity.specs.declared.Column.{Column}
-use Rattle.immunity.specs.declared.Summary.{Summary}
+use Rattle.classes.specs.Numbers.{monitorability_number}
+use Rattle.witness.specs.declared.Witness.{Witness}
+use Rattle.witness.specs.Figures.{FaultFigures, witness_figures, witness_trace, room_questions, found_values, outcome}
 use Rattle.immunity.specs.declared.LinkCard.{LinkCard}
 
 -- what a table's fault question answers
@@ -35,11 +34,9 @@ fault_answer limit b set d room =
 abbrev pub fault_trace : List ℕ → ℕ → ℕ → List ℕ
 fault_trace b set d = witness_trace (first_witness (monitor_of b) d set)
 
--- 01's number and place of a refusal, or the values of a finding
-abbrev pub finding : Finding → Answer FaultFigures
-finding (Refused r) = refusal r
-finding Immune = answered none
-finding (Vulnerable w) = answered (some (witness_values w))
+-- 01's number and place of a refusal, or the values of a finding: those of the first witness's outcome
+abbrev pub finding : Result (Maybe Witness) Refusal → Answer FaultFigures
+finding r = outcome r
 
 -- ---- the card
 
@@ -68,15 +65,19 @@ unfoldable pub card_answer : ℕ → List ℕ → CardAnswer
 card_answer limit b = card_asking (table_questions limit b) (monitor_of b)
 
 -- 01's number and place of a refusal, or the values of a summary
-abbrev pub summarised : Summary → Answer (List ℕ)
-summarised (Summary.Table states monitorability) = answered (states ∷ monitorability ∷ [])
-summarised (Summary.Refused r) = refusal r
+abbrev pub summarised : Result LinkCard Refusal → Answer (List ℕ)
+summarised r = answer_by (λ c. c.states ∷ monitorability_number c.monitorability ∷ []) r
 
 -- the findings of the columns, one after the other
-abbrev pub found : List Column → List (Answer FaultFigures)
+abbrev pub found : List (Maybe Witness) → List (Answer FaultFigures)
 found [] = []
-found (column ∷ columns) = finding column.finding ∷ found columns
+found (column ∷ columns) = answered (found_values column) ∷ found columns
+
+-- the columns of a card; the refusal in each where the table is refused
+abbrev pub columned : Result LinkCard Refusal → List (Answer FaultFigures)
+columned (Ok c) = found c.columns
+columned (Err r) = each kinds (λ c. refusal r ∷ [])
 
 -- the values of a card
-abbrev pub carded : LinkCard → CardAnswer
-carded c = record { summary = summarised c.summary; columns = found c.columns }
+abbrev pub carded : Result LinkCard Refusal → CardAnswer
+carded r = record { summary = summarised r; columns = columned r }

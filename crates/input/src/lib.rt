@@ -1,10 +1,8 @@
 // Standard input, which the programs for users read as a whole, and files that arguments name.
 #![tactic(auto)]
 
-ghost use Rattle.std.specs.Prelude.{◌≤◌, ◌-◌, length, IfOk};
-
-use basics::Refusal;
-use output::{Program, Streams};
+use basics::{Reason, Refusal};
+use output::Program;
 use std::fs::Files;
 use std::io::Read;
 use std::{fs, io, str};
@@ -15,82 +13,62 @@ const LIMIT: usize = 65536;
 // One byte more, by which a longer input shows.
 pub const SIZE: usize = LIMIT + 1;
 
-// What reading the input came to: its length, the refusal of question 26, or a failure that standard error has told.
-#[derive(Drop)]
-pub enum Input {
-    Whole { length: usize },
-    Refused(Refusal),
-    Failed,
-}
-
-// What filling a space came to: the length of all that there was, more than the space holds, or a read that failed.
-#[derive(Drop)]
-pub enum Filled {
-    Whole { length: usize },
+// Why an input is not there whole: there is more of it than there may be, or a read failed, which standard error has
+// told.
+#[derive(Clone, Copy)]
+pub enum Unread {
     Longer,
     Failed,
 }
 
+// How a longer input is refused, by the question whether it is short enough.
+pub const TOO_LONG: Refusal = Refusal {
+    reason: Reason::InputTooLong,
+    place: 0,
+};
+
 // The system's number for a name that is no text, which its library cannot open.
 const ILLEGAL_TEXT: i32 = 84;
 
-// One read into the space from a place on. Answers how many bytes came, 0 at the end.
-fn read_on<R: Read>(reader: &mut R, space: &mut [u8], from: usize, size: usize) -> io::Result<usize>
-    requires { (from ≤ size)
-        × (size ≤ length space.old) }
-    ensures { IfOk result (λ count. count ≤ size - from) }
-{
-    reader.read(&mut space[from..size])
-}
+// How many bytes there were, where the space that has a byte more than there may be is not filled by them.
+type Length = Option<usize>;
 
-// Reads into the first bytes of a space, up to `most` bytes. That is one more than there may be, so if all of them come
-// there are too many.
-fn fill<R: Read>(reader: &mut R, space: &mut [u8], most: usize) -> io::Result<Filled> {
-    let size = basics::least_of(most, space.len());
+// Reads into the space.
+fn fill<R: Read>(reader: &mut R, space: &mut [u8]) -> io::Result<Length> {
+    let size = space.len();
     let mut done = 0;
+    // A while: a read may bring any number of bytes.
     while done < size {
-        let more = read_on(reader, space, done, size)?;
+        let more = reader.read(&mut space[done..size])?;
         if more == 0 {
-            return Ok(Filled::Whole { length: done });
+            return Ok(Some(done));
         }
         done += more;
     }
-    Ok(Filled::Longer)
+    Ok(None)
 }
 
-// What filling a space from what has this name came to, after standard error has told a failure.
-fn told(streams: Streams, program: Program, name: &[u8], filled: io::Result<Filled>) -> Filled {
+// How many bytes what has this name has, after standard error has told a failure.
+fn told(program: Program, name: &[u8], filled: io::Result<Length>) -> Result<usize, Unread> {
     match filled {
-        Ok(filled) => filled,
+        Ok(length) => length.ok_or(Unread::Longer),
         Err(reason) => {
-            output::failure(streams, program, name, &reason);
-            Filled::Failed
+            program.fail(name, &reason);
+            Err(Unread::Failed)
         }
     }
 }
 
 // Reads the input into the first bytes of a space that is lent, which has SIZE bytes at least: of a longer input the
-// first SIZE. Standard error has told a failure.
-pub fn read_first(streams: Streams, program: Program, space: &mut [u8]) -> Filled {
-    let mut input = streams.input;
+// first SIZE.
+pub fn read(program: Program, space: &mut [u8]) -> Result<usize, Unread> {
+    let mut input = program.input;
+    let size = basics::least_of(SIZE, space.len());
     told(
-        streams,
         program,
         b"standard input",
-        fill(&mut input, space, SIZE),
+        fill(&mut input, &mut space[..size]),
     )
-}
-
-// The same for a program that refuses a longer input itself.
-pub fn read(streams: Streams, program: Program, space: &mut [u8]) -> Input {
-    match read_first(streams, program, space) {
-        Filled::Whole { length } => Input::Whole { length },
-        Filled::Longer => Input::Refused(Refusal {
-            number: 26,
-            place: 0,
-        }),
-        Filled::Failed => Input::Failed,
-    }
 }
 
 // Opens the file of this name, which has to be text.
@@ -102,20 +80,16 @@ fn open<R: Files>(rt: &R, name: &[u8]) -> io::Result<R::File> {
 }
 
 // Opens the file of this name, reads it into a space, and closes it.
-fn fill_from<R: Files>(rt: &R, name: &[u8], space: &mut [u8]) -> io::Result<Filled> {
-    let mut file = open(rt, name)?;
-    let size = space.len();
-    fill(&mut file, space, size)
+fn fill_from(rt: &impl Files, name: &[u8], space: &mut [u8]) -> io::Result<Length> {
+    fill(&mut open(rt, name)?, space)
 }
 
-// Reads the file of this name into a space that has a byte more than the file may have. Standard error has told a
-// failure.
+// Reads the file of this name into a space that has a byte more than the file may have.
 pub fn read_file(
     rt: &impl Files,
-    streams: Streams,
     program: Program,
     name: &[u8],
     space: &mut [u8],
-) -> Filled {
-    told(streams, program, name, fill_from(rt, name, space))
+) -> Result<usize, Unread> {
+    told(program, name, fill_from(rt, name, space))
 }

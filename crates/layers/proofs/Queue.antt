@@ -7,7 +7,7 @@ use Prim.Native.Nat.{ℕ, ◌+◌, ◌≤◌, ◌<◌}
 use native.Mathlib.Nat.{le_refl, le_trans, lt_of_lt_of_le, not-suc-le-zero}
 use native.Mathlib.Omega.{arith}
 use lib.Dec.{eqb}
-use lib.ListN.{length, get_or, set, length-set}
+use lib.ListN.{length, get_or, set, length-append, length-set}
 use lib.Seq.{get_or-set_same, get_or-set_other}
 use borrow.Author.Tests.{lt-ltb, le-ltb, ltb-true, eq-eqb}
 use Rattle.theory.specs.Below.{count}
@@ -27,13 +27,9 @@ unfolding Trace run
 led_on g {start} {q} {l} {a} {x} h la e = record {
   word = h.word ++ (a ∷ []);
   trace = trace_append g h.word (a ∷ []) h.trace (la, tt);
-  long = length_more h.word ∙ ap (λ (i : ℕ). i + 1) h.long;
+  long = length-append h.word (a ∷ []) ∙ ap (λ (i : ℕ). i + 1) h.long;
   arrives = run_append g start h.word (a ∷ []) ∙ ap (λ (p : ℕ). g.next p a) h.arrives ∙ sym e;
 }
-  where
-    length_more : (w : List ℕ) → length (w ++ (a ∷ [])) ≡ length w + 1
-    length_more [] = refl
-    length_more (b ∷ w) = (let e = length_more w in omega (arith, e))
 
 -- ---- the queue
 

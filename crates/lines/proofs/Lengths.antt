@@ -23,9 +23,9 @@ use Rattle.theory.proofs.Witness.{first_harms}
 use Rattle.monitor.specs.Format.{states_of, symbols_of, drawn_marks, nexts, monitor_of}
 use Rattle.monitor.specs.Questions.{not_below, revokes, table_questions, no_values, judge_answer}
 use Rattle.monitor.proofs.Accepted.{accepted_table}
-use Rattle.lines.specs.Text.{ascii, decimal}
+use Rattle.text.specs.Text.{ascii, decimal}
 use Rattle.lines.specs.Line.{monitorability_text, distance_text, card_line, refusal_line, judged_line, rule_line, line_most}
-use Rattle.lines.proofs.Decimal.{decimal_short}
+use Rattle.text.proofs.Decimal.{decimal_short}
 
 -- a number that has at most five digits
 abbrev pub Five : ℕ → Type 0

@@ -1,6 +1,3 @@
-pub mod Decimal
-pub mod Puts
-pub mod Words
-pub mod Copied
-pub mod Shown
+pub mod Columns
 pub mod Lengths
+pub mod Shown

@@ -1,16 +1,15 @@
 -- The listing's line for a rule and its body.
-use Rattle.std.specs.Prelude.{◌≡◌, cond, List, [], ◌∷◌, ◌++◌, ℕ, ◌+◌, ◌^◌, eqb, length, take}
+use Rattle.std.specs.Prelude.{cond, List, [], ◌∷◌, ◌++◌, ℕ, ◌^◌, eqb, Option, Some, None}
 use Rattle.theory.specs.Lists.{each}
-use Rattle.theory.specs.Answer.{Answer, refused, answered, asks}
+use Rattle.theory.specs.Answer.{Answer, refused, answered}
 use Rattle.theory.specs.Monitor.{Monitor, monitorability}
 use Rattle.theory.specs.Faults.{kinds}
 use Rattle.theory.specs.Extent.{Extent, number, missing}
 use Rattle.theory.specs.Computed.{distance}
 use Rattle.monitor.specs.Format.{monitor_of}
-use Rattle.monitor.specs.Questions.{judge_answer, question13}
-use Rattle.immunity.specs.declared.Column.{Column}
-use Rattle.immunity.specs.declared.Finding.{Finding}
-use Rattle.lines.specs.Text.{ascii, decimal}
+use Rattle.monitor.specs.Questions.{judge_answer}
+use Rattle.witness.specs.declared.Witness.{Witness}
+use Rattle.text.specs.Text.{ascii, decimal, text_answer}
 
 -- fields with a space before each, and what stands behind them
 abbrev pub spaced : List (List ℕ) → List ℕ → List ℕ
@@ -54,10 +53,6 @@ judged_line rule (answered values) m = card_line rule m
 unfoldable pub rule_line : ℕ → ℕ → List ℕ → List ℕ
 rule_line limit rule body = judged_line rule (judge_answer limit body) (monitor_of body)
 
--- writing a text asks 13 and answers its length
-abbrev pub text_answer : List ℕ → ℕ → Answer (List ℕ)
-text_answer text room = asks (question13 (length text) room ∷ []) (length text ∷ [])
-
 -- writing a line
 unfoldable pub line_answer : ℕ → ℕ → List ℕ → ℕ → Answer (List ℕ)
 line_answer limit rule body room = text_answer (rule_line limit rule body) room
@@ -73,23 +68,16 @@ line_room = 256
 abbrev pub line_most : ℕ
 line_most = 41
 
--- a text was put behind the first `at` bytes of a buffer and ends at `to`
-pub record Put (text before : List ℕ) (at : ℕ) (after : List ℕ) (to : ℕ) : Type 0 where
-  pub ends : to ≡ at + length text
-  pub holds : take to after ≡ take at before ++ text
-  pub same : length after ≡ length before
-
--- the distance of a finding, `-` for immune; a finding that is a refusal is told apart from both
-abbrev pub finding_text : Finding → List ℕ
-finding_text (Finding.Refused r) = ascii "refused"
-finding_text Finding.Immune = ascii "-"
-finding_text (Finding.Vulnerable w) = decimal w.distance
+-- the distance of a column's witness, `-` where there is none
+abbrev pub column_text : Option Witness → List ℕ
+column_text None = ascii "-"
+column_text (Some w) = decimal w.distance
 
 -- the texts of columns, one after the other
-abbrev pub column_texts : List Column → List (List ℕ)
+abbrev pub column_texts : List (Option Witness) → List (List ℕ)
 column_texts [] = []
-column_texts (column ∷ columns) = finding_text column.finding ∷ column_texts columns
+column_texts (column ∷ columns) = column_text column ∷ column_texts columns
 
 -- the line of a rule with n states, the monitorability y and these columns
-abbrev pub shown_line : ℕ → ℕ → ℕ → List Column → List ℕ
+abbrev pub shown_line : ℕ → ℕ → ℕ → List (Option Witness) → List ℕ
 shown_line rule n y columns = line_text (decimal rule) (decimal n ∷ monitorability_text y ∷ column_texts columns)

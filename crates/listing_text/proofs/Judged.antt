@@ -13,7 +13,7 @@ use Rattle.monitor.specs.Questions.{no_values}
 use Rattle.collection.specs.Contents.{count_of, rule_of, entry_limit, question20, question21, question22, question23, question24, question25}
 use Rattle.collection.specs.Contents.{collection_questions, collection_answer}
 use Rattle.lines.specs.Line.{line_most}
-use Rattle.lines.proofs.Decimal.{decimal_short}
+use Rattle.text.proofs.Decimal.{decimal_short}
 use Rattle.lines.proofs.Lengths.{Five, Told, told_by}
 use Rattle.listing_text.specs.Listing.{input_limit, question26, listing_questions, listing_text, listing_room}
 use Rattle.listing_text.specs.Listing.{header_text, entry_line, accepted_text, refused_text, judged_text}

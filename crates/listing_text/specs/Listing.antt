@@ -4,8 +4,8 @@ use Rattle.theory.specs.Lists.{each}
 use Rattle.theory.specs.Answer.{Question, Answer, refused, answered, asks}
 use Rattle.monitor.specs.Questions.{no_values}
 use Rattle.collection.specs.Contents.{count_of, rule_of, body_of, entry_limit, collection_questions}
-use Rattle.lines.specs.Text.{ascii, decimal}
-use Rattle.lines.specs.Line.{rule_line, text_answer, line_most}
+use Rattle.text.specs.Text.{ascii, decimal, text_answer}
+use Rattle.lines.specs.Line.{rule_line, line_most}
 
 -- the greatest length of an input
 abbrev pub input_limit : ℕ

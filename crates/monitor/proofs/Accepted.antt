@@ -7,15 +7,13 @@ use native.Mathlib.Omega.{arith}
 use lib.Arith.{digits_lt}
 use lib.ListN.{length}
 use borrow.Author.Tests.{eqb-true}
-use Rattle.theory.specs.Answer.{Question, answered, asks, written}
+use Rattle.theory.specs.Answer.{Question, answered, refused, asks, written}
 use Rattle.theory.specs.Monitor.{WellFormed}
 use Rattle.theory.proofs.Below.{first_none}
 use Rattle.theory.proofs.Answer.{asks_yes, asks_both, asks_refused, asks_passed, untouched}
 use Rattle.monitor.specs.Format.{states_of, symbols_of, start_of, drawn_marks, marks, nexts, drawn_of, Table}
 use Rattle.monitor.specs.Questions.{first_not_below, revokes, first_revoking, question6, question7, question8, head_questions, row_questions, table_questions}
 use Rattle.monitor.specs.Questions.{judge_answer}
-use Rattle.basics.specs.Refusals.{refusal}
-use Rattle.basics.specs.declared.Refusal.{Refusal}
 use Rattle.monitor.proofs.Revoking.{verdict_stays}
 use Rattle.monitor.proofs.Rows.{next_inside}
 use Rattle.monitor.proofs.Head.{Head, passed_head}
@@ -63,8 +61,8 @@ module _ (limit : ℕ) (b : List ℕ) where
 
 -- ---- what a call answers of a refused and of an accepted body
 
-pub refused_asks : {A : Type 0} (limit : ℕ) (b : List ℕ) (more : List Question) (values : A) {x : Refusal} → judge_answer limit b ≡ refusal x
-    → asks (table_questions limit b ++ more) values ≡ refusal x
+pub refused_asks : {A : Type 0} (limit : ℕ) (b : List ℕ) (more : List Question) (values : A) {number place : ℕ} → judge_answer limit b ≡ refused number place
+    → asks (table_questions limit b ++ more) values ≡ refused number place
 unfolding judge_answer
 refused_asks limit b more values e = asks_refused (table_questions limit b) more values [] e
 
@@ -74,7 +72,7 @@ unfolding judge_answer
 accepted_asks limit b more values e = asks_passed (table_questions limit b) more values [] e
 
 -- a refused body leaves the area as it was
-pub refused_writes : {A : Type 0} (limit : ℕ) (b : List ℕ) (more : List Question) (values : A) (bytes area : List ℕ) {x : Refusal}
-    → judge_answer limit b ≡ refusal x
-    → (refusal x ≡ asks (table_questions limit b ++ more) values) × (area ≡ written (asks (table_questions limit b ++ more) values) bytes area)
+pub refused_writes : {A : Type 0} (limit : ℕ) (b : List ℕ) (more : List Question) (values : A) (bytes area : List ℕ) {number place : ℕ}
+    → judge_answer limit b ≡ refused number place
+    → (refused number place ≡ asks (table_questions limit b ++ more) values) × (area ≡ written (asks (table_questions limit b ++ more) values) bytes area)
 refused_writes limit b more values bytes area e = (let no = refused_asks limit b more values e in (sym no, untouched bytes area no))

@@ -24,6 +24,10 @@ module _ (vs ts : List ℕ) (q k : ℕ) {i : ℕ} (l : q * k ≤ i) (h : i < q *
       no_more true = refl
       no_more false = refl
 
+  -- where q is marked, it is asked whether the next state is marked otherwise
+  pub revokes_by : (get_or vs q 0 ≡ 0 → ⊥) → not (eqb (get_or vs (get_or ts i 0) 0) (get_or vs q 0)) ≡ revokes vs ts k i
+  revokes_by m = rw (row_of q k l h, ne_eqb (get_or vs q 0) 0 m)
+
   pub other_revokes : (get_or vs q 0 ≡ 0 → ⊥) → (get_or vs (get_or ts i 0) 0 ≡ get_or vs q 0 → ⊥) → revokes vs ts k i ≡ true
   other_revokes m d = rw (row_of q k l h, ne_eqb (get_or vs q 0) 0 m, ne_eqb (get_or vs (get_or ts i 0) 0) (get_or vs q 0) d)
 

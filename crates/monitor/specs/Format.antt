@@ -1,6 +1,5 @@
 -- A table as bytes. A body is any list of numbers, whether or not they are bytes.
 use Rattle.std.specs.Prelude.{◌≡◌, List, ℕ, ◌+◌, ◌*◌, ◌≤◌, ◌<◌, length, get_or, take, drop}
-use Rattle.std.specs.Borrow.{Bor}
 use Rattle.theory.specs.Below.{values}
 use Rattle.theory.specs.Automaton.{Automaton}
 use Rattle.theory.specs.Monitor.{Monitor, WellFormed, symbol_limit}
@@ -29,10 +28,6 @@ nexts b = drop (3 + states_of b) b
 -- the automaton of n states and k symbols whose next states stand row by row in ts
 abbrev pub automaton_of : ℕ → ℕ → List ℕ → Automaton
 automaton_of n k ts = record { states = n; symbols = k; next = λ q a. get_or ts (q * k + a) 0 }
-
--- the same of the next states behind a reference, for contracts
-abbrev pub graph : ℕ → ℕ → Bor (List ℕ) → Automaton
-graph n k nexts = automaton_of n k nexts.now
 
 -- with the start s and the marks vs
 abbrev pub table_of : ℕ → ℕ → ℕ → List ℕ → List ℕ → Monitor

@@ -1,3 +1,4 @@
 pub mod Format
 pub mod Questions
-pub mod Opening
+pub mod Graph
+pub mod Tables

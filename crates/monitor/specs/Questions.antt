@@ -1,14 +1,14 @@
 -- The questions on the way in, each with its number and place. Those about a body are asked of a list of numbers,
 -- bytes or not.
-use Rattle.std.specs.Prelude.{Bool, ◌&&◌, ◌||◌, not, List, [], ◌∷◌, ◌++◌, ℕ, ◌+◌, ◌*◌, ◌/◌, length, get_or, eqb, leb, ltb}
+use Rattle.std.specs.Prelude.{Result, Bool, ◌&&◌, ◌||◌, not, List, [], ◌∷◌, ◌++◌, ℕ, ◌+◌, ◌*◌, ◌/◌, length, get_or}
+use Rattle.std.specs.Prelude.{eqb, leb, ltb}
 use Rattle.theory.specs.Below.{first}
-use Rattle.theory.specs.Answer.{Question, Answer, answered, asks}
+use Rattle.theory.specs.Answer.{Question, Answer, asks}
 use Rattle.theory.specs.Faults.{all_faults}
 use Rattle.theory.specs.Monitor.{symbol_limit, verdicts_of}
-use Rattle.basics.specs.Refusals.{refusal}
+use Rattle.basics.specs.declared.refusal.Refusal.{Refusal}
+use Rattle.basics.specs.Refusals.{answer_by}
 use Rattle.monitor.specs.Format.{states_of, symbols_of, start_of, drawn_marks, nexts}
-use Rattle.monitor.specs.declared.Judgement.{Judgement}
-use Rattle.monitor.specs.declared.Judgement.TheVariants.{Accepted, Refused}
 
 -- the number at i is not below the bound
 abbrev pub not_below : ℕ → List ℕ → ℕ → Bool
@@ -108,6 +108,5 @@ unfoldable pub judge_answer : ℕ → List ℕ → Answer (List ℕ)
 judge_answer limit b = asks (table_questions limit b) no_values
 
 -- 01's number and place of a judgement
-abbrev pub judgement : Judgement → Answer (List ℕ)
-judgement Accepted = answered no_values
-judgement (Refused r) = refusal r
+abbrev pub judgement : Result (Unit {0}) Refusal → Answer (List ℕ)
+judgement r = answer_by (λ _. no_values) r

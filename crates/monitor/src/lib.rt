@@ -5,18 +5,18 @@ ghost use Rattle.std.specs.Prelude.{◌≡◌, ◌*◌, ◌<◌, length};
 ghost use Rattle.theory.specs.Below.{any, first};
 ghost use Rattle.theory.specs.Monitor.{state_limit};
 ghost use Rattle.theory.specs.Answer.{Answer, asks};
-ghost use Rattle.monitor.specs.Format.{drawn_marks, nexts, Rows, graph};
+ghost use Rattle.monitor.specs.Format.{drawn_marks, nexts};
 ghost use Rattle.monitor.specs.Questions.{not_below, first_not_below, revokes, first_revoking};
 ghost use Rattle.monitor.specs.Questions.{head_questions, row_questions, no_values, judgement, judge_answer};
 
-use basics::Refusal;
+use basics::{Reason, Refusal};
 use theory::{STATE_LIMIT, SYMBOL_LIMIT};
 
-#[derive(Drop)]
-pub enum Judgement {
-    Accepted,
-    Refused(Refusal),
-}
+mod graph;
+mod table;
+
+pub use graph::Graph;
+pub use table::Table;
 
 // The sizes of a table, and its start.
 #[derive(Clone, Copy)]
@@ -26,22 +26,13 @@ pub struct Shape {
     pub start: usize,
 }
 
-// A refusal as a judgement.
-pub fn refused(number: usize, place: usize) -> Judgement
-    ensures { judgement result ≡ Answer.refused number place }
-{
-    Judgement::Refused(Refusal { number, place })
-}
-
 // Whether some byte is not below the bound. The loop has one way out, so that the compiler can take many bytes at once.
 fn some_not_below(bytes: &[u8], bound: u8) -> bool
     ensures { result ≡ any (length bytes.now) (not_below bound bytes.now) }
 {
     let mut found = false;
-    let mut i = 0;
-    while i < bytes.len() {
-        found = found | (bytes[i] >= bound);
-        i += 1;
+    for byte in bytes {
+        found = found | (*byte >= bound);
     }
     found
 }
@@ -53,52 +44,41 @@ pub fn first_not_below(bytes: &[u8], bound: u8) -> usize
     if !some_not_below(bytes, bound) {
         return bytes.len();
     }
-    let mut i = 0;
-    while i < bytes.len() {
-        if bytes[i] >= bound {
-            return i;
-        }
-        i += 1;
-    }
-    i
+    basics::first_in(0, bytes.len(), |i| bytes[i] >= bound)
 }
 
 // The index of the first next state of q that gives up the verdict of q, or the end of q's row.
-fn first_revoking_row(marks: &[u8], nexts: &[u8], k: usize, q: usize) -> usize
-    requires { Rows state_limit (length marks.now) k nexts.now
-        × (q < length marks.now) }
-    ensures { result ≡ first (revokes marks.now nexts.now k) (q * k) k }
+fn first_revoking_row(marks: &[u8], graph: &Graph, q: usize) -> usize
+    requires { (length marks.now ≡ graph.now.states)
+        × (q < graph.now.states) }
+    ensures { result
+        ≡ first (revokes marks.now graph.now.nexts.now graph.now.symbols) (q * graph.now.symbols)
+        graph.now.symbols }
 {
-    let end = q * k + k;
+    let from = q * graph.symbols;
     let mark = marks[q];
     if mark == 0 {
-        return end;
+        return from + graph.symbols;
     }
-    let mut i = q * k;
-    while i < end {
-        let next = nexts[i] as usize;
-        if marks[next] != mark {
-            return i;
-        }
-        i += 1;
-    }
-    i
+    basics::first_in(
+        from,
+        graph.symbols,
+        |i| marks[graph.nexts[i] as usize] != mark,
+    )
 }
 
 // The same for all rows: the index of the first such next state, or how many next states there are.
-fn first_revoking(marks: &[u8], nexts: &[u8], k: usize) -> usize
-    requires { Rows state_limit (length marks.now) k nexts.now }
-    ensures { result ≡ first_revoking marks.now nexts.now k }
+fn first_revoking(marks: &[u8], graph: &Graph) -> usize
+    requires { length marks.now ≡ graph.now.states }
+    ensures { result ≡ first_revoking marks.now graph.now.nexts.now graph.now.symbols }
 {
-    let mut q = 0;
-    while q < marks.len() {
-        let i = first_revoking_row(marks, nexts, k, q);
-        if i < q * k + k {
+    for q in 0..graph.states {
+        let i = first_revoking_row(marks, graph, q);
+        if i < q * graph.symbols + graph.symbols {
             return i;
         }
-        q += 1;
     }
-    nexts.len()
+    graph.nexts.len()
 }
 
 // The marks of a body as drawn, as far as it has them.
@@ -117,80 +97,68 @@ pub fn next_states(body: &[u8]) -> &[u8]
 }
 
 // Questions 1 to 5.
-fn judge_head(body: &[u8]) -> Judgement
+fn judge_head(body: &[u8]) -> Result<(), Refusal>
     ensures { judgement result ≡ asks (head_questions state_limit body.now) no_values }
 {
     let len = body.len();
     if len < 3 {
-        return refused(1, len);
+        return Err(Reason::BodyTooShort.at(len));
     }
     let n = body[0] as usize;
     if n < 1 {
-        return refused(2, 0);
+        return Err(Reason::StateCount.at(0));
     }
     if n > STATE_LIMIT {
-        return refused(2, 0);
+        return Err(Reason::StateCount.at(0));
     }
     let k = body[1] as usize;
     if k < 1 {
-        return refused(3, 1);
+        return Err(Reason::SymbolCount.at(1));
     }
     if k > SYMBOL_LIMIT {
-        return refused(3, 1);
+        return Err(Reason::SymbolCount.at(1));
     }
     if len != 3 + n + n * k {
-        return refused(4, len);
+        return Err(Reason::BodyLength.at(len));
     }
     if body[2] >= body[0] {
-        return refused(5, 2);
+        return Err(Reason::Start.at(2));
     }
-    Judgement::Accepted
+    Ok(())
 }
 
 // Questions 6 to 8, of a body that passed 1 to 5.
-fn judge_rows(body: &[u8]) -> Judgement
+fn judge_rows(body: &[u8]) -> Result<(), Refusal>
     requires { asks (head_questions state_limit body.now) no_values ≡ Answer.answered no_values }
     ensures { judgement result ≡ asks (row_questions body.now) no_values }
 {
     let n = body[0] as usize;
-    let k = body[1] as usize;
     let marks = drawn_marks(body);
     let nexts = next_states(body);
     let mark = first_not_below(marks, 3);
     if mark < marks.len() {
-        return refused(6, 3 + mark);
+        return Err(Reason::Mark.at(3 + mark));
     }
     let next = first_not_below(nexts, body[0]);
     if next < nexts.len() {
-        return refused(7, 3 + n + next);
+        return Err(Reason::NextState.at(3 + n + next));
     }
-    let revoking = first_revoking(marks, nexts, k);
+    let graph = Graph {
+        states: n,
+        symbols: body[1] as usize,
+        nexts,
+    };
+    let revoking = first_revoking(marks, &graph);
     if revoking < nexts.len() {
-        return refused(8, 3 + n + revoking);
+        return Err(Reason::VerdictGivenUp.at(3 + n + revoking));
     }
-    Judgement::Accepted
+    Ok(())
 }
 
 // Accepts a body, or refuses it with the first question that it answers no.
-pub fn judge(body: &[u8]) -> Judgement
+pub fn judge(body: &[u8]) -> Result<(), Refusal>
     ensures { judgement result ≡ judge_answer state_limit body.now }
 {
-    match judge_head(body) {
-        Judgement::Refused(r) => {
-            return Judgement::Refused(r);
-        }
-        Judgement::Accepted => {}
-    }
+    judge_head(body)?;
     judge_rows(body)
-}
-
-// The successor of state q under symbol a.
-pub fn successor(nexts: &[u8], n: usize, k: usize, q: usize, a: usize) -> usize
-    requires { Rows state_limit n k nexts.now
-        × (q < n)
-        × (a < k) }
-    ensures next { result ≡ (graph n k nexts.entry).next q a }
-    ensures inside { result < n }
-{
-    nexts[q * k + a] as usize
 }

@@ -1,24 +1,18 @@
 // Opening a body: judging it, settling its marks, and handing out its table.
 #![tactic(auto)]
 
-ghost use Rattle.std.specs.Prelude.{◌≡◌, ◌++◌, ◌≤◌, ◌<◌, length, drop};
+ghost use Rattle.std.specs.Prelude.{◌≡◌, ℕ, ◌++◌, ◌≤◌, ◌<◌, length, drop};
 ghost use Rattle.theory.specs.Monitor.{state_limit};
 ghost use Rattle.state_set.specs.Member.{Exactly};
-ghost use Rattle.monitor.specs.Format.{Rows, graph, settled_marks};
-ghost use Rattle.monitor.specs.Opening.{TableIn};
+ghost use Rattle.monitor.specs.Format.{settled_marks, Table as Sound};
+ghost use Rattle.monitor.specs.Graph.{automaton};
 ghost use Rattle.opening.specs.Marks.{has_mark, mark_in, all_lead_to, new_mark};
-ghost use Rattle.opening.specs.Opens.{Opens};
+ghost use Rattle.opening.specs.Opens.{Opens, opened_table, open_table_answer};
 
 use basics::Refusal;
-use monitor::{Judgement, Shape};
+use monitor::{Graph, Shape, Table};
 use state_set::StateSet;
-
-// What opening a body answers.
-#[derive(Drop)]
-pub enum Opened {
-    Table(Shape),
-    Refused(Refusal),
-}
+use theory::STATE_LIMIT;
 
 // The states with the mark v.
 pub fn states_marked(marks: &[u8], v: u8) -> StateSet
@@ -26,49 +20,38 @@ pub fn states_marked(marks: &[u8], v: u8) -> StateSet
     ensures { Exactly (length marks.now) (has_mark marks.now v) result }
 {
     let mut set = StateSet::empty();
-    let mut q = 0;
-    while q < marks.len() {
-        if marks[q] == v {
+    for (q, mark) in marks.iter().enumerate() {
+        if *mark == v {
             set = set.with(q);
         }
-        q += 1;
     }
     set
 }
 
 // Whether every symbol leads from q to a state with this mark.
-fn all_lead_to(marks: &[u8], nexts: &[u8], n: usize, k: usize, q: usize, mark: u8) -> bool
-    requires { Rows state_limit n k nexts.now
-        × (n ≤ length marks.now)
-        × (q < n) }
-    ensures { result ≡ all_lead_to (graph n k nexts.entry) (mark_in marks.now) q mark }
+fn all_lead_to(marks: &[u8], graph: &Graph, q: usize, mark: u8) -> bool
+    requires { (graph.now.states ≤ length marks.now)
+        × (q < graph.now.states) }
+    ensures { result ≡ all_lead_to (automaton graph.now) (mark_in marks.now) q mark }
 {
-    let mut a = 0;
-    while a < k {
-        if marks[monitor::successor(nexts, n, k, q, a)] != mark {
-            return false;
-        }
-        a += 1;
-    }
-    true
+    !basics::any_below(graph.symbols, |a| marks[graph.successor(q, a)] != mark)
 }
 
 // The mark that q takes: that of its next states, where it has none and all of them have the same; else 0.
-fn new_mark(marks: &[u8], nexts: &[u8], n: usize, k: usize, q: usize) -> u8
-    requires { Rows state_limit n k nexts.now
-        × (n ≤ length marks.now)
-        × (0 < k)
-        × (q < n) }
-    ensures { result ≡ new_mark (graph n k nexts.entry) (mark_in marks.now) q }
+fn new_mark(marks: &[u8], graph: &Graph, q: usize) -> u8
+    requires { (graph.now.states ≤ length marks.now)
+        × (0 < graph.now.symbols)
+        × (q < graph.now.states) }
+    ensures { result ≡ new_mark (automaton graph.now) (mark_in marks.now) q }
 {
     if marks[q] != 0 {
         return 0;
     }
-    let mark = marks[monitor::successor(nexts, n, k, q, 0)];
+    let mark = marks[graph.successor(q, 0)];
     if mark == 0 {
         return 0;
     }
-    if all_lead_to(marks, nexts, n, k, q, mark) {
+    if all_lead_to(marks, graph, q, mark) {
         return mark;
     }
     0
@@ -76,17 +59,18 @@ fn new_mark(marks: &[u8], nexts: &[u8], n: usize, k: usize, q: usize) -> u8
 
 // Writes the settled marks of a table into the first places of the area: the marks as drawn; then state after state
 // without one takes the mark that all its next states have, until none does.
-fn settle(drawn: &[u8], nexts: &[u8], t: Shape, area: &mut [u8])
-    requires { TableIn t drawn nexts
-        × (t.states ≤ length area.old) }
+fn settle(drawn: &[u8], graph: &Graph, area: &mut [u8])
+    requires { ((start : ℕ) × Sound state_limit graph.now.states graph.now.symbols start drawn.now graph.now.nexts.now)
+        × (graph.now.states ≤ length area.old) }
     ensures { area.new
-        ≡ settled_marks t.states t.symbols drawn.now nexts.now
-        ++ drop t.states area.old }
+        ≡ settled_marks graph.now.states graph.now.symbols drawn.now graph.now.nexts.now
+        ++ drop graph.now.states area.old }
 {
     basics::copy(drawn, area);
     let mut q = 0;
-    while q < t.states {
-        let mark = new_mark(area, nexts, t.states, t.symbols, q);
+    // No `for`: where a state takes a mark, all are looked at again.
+    while q < graph.states {
+        let mark = new_mark(area, graph, q);
         if mark == 0 {
             q += 1;
         } else {
@@ -97,27 +81,39 @@ fn settle(drawn: &[u8], nexts: &[u8], t: Shape, area: &mut [u8])
 }
 
 // Judges a body, and opens an accepted one: the shape of its table, and the settled marks in the first places of the
-// area. With `monitor::next_states` this is all that a call knows of a table.
-pub fn open(body: &[u8], area: &mut [u8]) -> Opened
+// area.
+pub fn open(body: &[u8], area: &mut [u8]) -> Result<Shape, Refusal>
     requires { length area.old ≡ state_limit }
     ensures { Opens state_limit body.now area.old result area.new }
 {
-    match monitor::judge(body) {
-        Judgement::Refused(r) => {
-            return Opened::Refused(r);
-        }
-        Judgement::Accepted => {}
-    }
-    let t = Shape {
+    monitor::judge(body)?;
+    let graph = Graph {
         states: basics::byte_at(body, 0),
         symbols: basics::byte_at(body, 1),
-        start: basics::byte_at(body, 2),
+        nexts: monitor::next_states(body),
     };
-    settle(
-        monitor::drawn_marks(body),
-        monitor::next_states(body),
-        t,
-        area,
-    );
-    Opened::Table(t)
+    settle(monitor::drawn_marks(body), &graph, area);
+    Ok(Shape {
+        states: graph.states,
+        symbols: graph.symbols,
+        start: basics::byte_at(body, 2),
+    })
+}
+
+// The same, with the table as all that a call knows of a body.
+pub fn open_table(body: &[u8]) -> Result<Table<'_>, Refusal>
+    ensures { opened_table result ≡ open_table_answer state_limit body.now }
+{
+    let mut marks = [0u8; STATE_LIMIT];
+    let shape = open(body, &mut marks)?;
+    let graph = Graph {
+        states: shape.states,
+        symbols: shape.symbols,
+        nexts: monitor::next_states(body),
+    };
+    Ok(Table {
+        graph,
+        start: shape.start,
+        marks,
+    })
 }

@@ -4,14 +4,14 @@
 
 mod words;
 
-ghost use Rattle.std.specs.Prelude.{◌≡◌, ◌≤◌, length};
+ghost use Rattle.std.specs.Prelude.{◌≤◌};
 
-use basics::Writing;
 use collection::ENTRY_LIMIT;
-use input::Filled;
-use output::{Program, Streams};
+use input::Unread;
+use output::Program;
 use std::env::Env;
 use std::fs::Files;
+use std::io::Write;
 
 // Bytes lent for the collection.
 const ROOM: usize = 65536;
@@ -22,70 +22,55 @@ const BODIES: usize = 65535;
 // One rule more than a collection can have. What stands behind is not read: the count is refused before it matters.
 const MOST: usize = ENTRY_LIMIT + 1;
 
-// What gathering the bodies came to: their length, or a failure that standard error has told.
-#[derive(Drop)]
-enum Gathered {
-    Bodies { length: usize },
-    Failed,
-}
-
 // Puts the name of an entry's file into the space and answers its length. It stands behind the rule number.
 fn read_name(rt: &impl Env, entry: usize, space: &mut [u8]) -> usize {
     arguments::text_at(rt, 2 + 2 * basics::least_of(entry, MOST), space)
 }
 
-// Reads the file of an entry into a space that has a byte more than is left for it.
+// Reads the file of an entry into a space that has a byte more than is left for it. Standard error has told what
+// failed.
 fn read_body(
     rt: &(impl Env + Files),
-    streams: Streams,
+    program: Program,
     entry: usize,
     left: &mut [u8],
     space: &mut [u8],
-) -> Filled {
+) -> Result<usize, Unread> {
     let length = read_name(rt, entry, space);
     let name = basics::part(space, 0, length);
-    let filled = input::read_file(rt, streams, Program::Pack, name, left);
-    match filled {
-        Filled::Longer => output::complaint_of(
-            streams,
-            Program::Pack,
+    let read = input::read_file(rt, program, name, left);
+    if let Err(Unread::Longer) = read {
+        program.complain_of(
             name,
             b"the bodies up to this one have more than 65535 bytes",
-        ),
-        _ => {}
+        );
     }
-    filled
+    read
 }
 
-// Reads the bodies one behind the other, and fills the list with their lengths. No file comes with more bytes than are
-// left: `read_body` says that it is longer.
+// Reads the bodies one behind the other, fills the list with their lengths, and answers how long they are. No file
+// comes with more bytes than are left: `read_body` says that it is longer.
 fn read_bodies(
     rt: &(impl Env + Files),
-    streams: Streams,
+    program: Program,
     lengths: &mut [u16],
-    bodies: &mut [u8],
+    bodies: &mut [u8; ROOM],
     space: &mut [u8],
-) -> Gathered
-    requires { length bodies.old ≡ 65536 }
-{
+) -> Result<usize, Unread> {
     let mut from = 0;
-    let mut i = 0;
-    while i < lengths.len() {
-        let Filled::Whole { length } = read_body(rt, streams, i, &mut bodies[from..], space) else {
-            return Gathered::Failed;
-        };
+    for (i, place) in lengths.iter_mut().enumerate() {
+        let length = read_body(rt, program, i, &mut bodies[from..], space)?;
         let size = basics::least_of(length, BODIES - from);
-        lengths[i] = size as u16;
+        *place = size as u16;
         from += size;
-        i += 1;
     }
-    Gathered::Bodies { length: from }
+    Ok(from)
 }
 
 // Writes the collection, or tells why it is refused, with the name of the file whose entry is the place.
 fn write(
     rt: &impl Env,
-    streams: Streams,
+    mut program: Program,
     rules: &[u16],
     lengths: &[u16],
     bodies: &[u8],
@@ -93,18 +78,16 @@ fn write(
 ) {
     let mut area = [0u8; ROOM];
     match writer::write(rules, lengths, bodies, &mut area) {
-        Writing::Written { length } => {
-            output::standard(streams, Program::Pack).text(basics::part(&area, 0, length));
-        }
-        Writing::Refused(r) => {
-            let length = read_name(rt, r.place, space);
-            words::refusal(streams, r, basics::part(space, 0, length));
+        Ok(length) => program.tell(program.output.write_all(basics::part(&area, 0, length))),
+        Err(refusal) => {
+            let length = read_name(rt, refusal.place, space);
+            words::refusal(program, refusal, basics::part(space, 0, length));
         }
     }
 }
 
 // Packs so many rules.
-fn pack(rt: &(impl Env + Files), streams: Streams, count: usize, space: &mut [u8])
+fn pack(rt: &(impl Env + Files), program: Program, count: usize, space: &mut [u8])
     requires { count ≤ 513 }
 {
     let mut rule_list = [0u16; MOST];
@@ -112,43 +95,34 @@ fn pack(rt: &(impl Env + Files), streams: Streams, count: usize, space: &mut [u8
     let mut bodies = [0u8; ROOM];
     let rules = &mut rule_list[0..count];
     let lengths = &mut length_list[0..count];
-    if !arguments::fill_two_bytes(rt, rules, 1, 2, space) {
-        words::usage(streams);
+    if arguments::fill_two_bytes(rt, rules, 1, 2, space).is_none() {
+        words::usage(program);
         return;
     }
-    let Gathered::Bodies { length } = read_bodies(rt, streams, lengths, &mut bodies, space) else {
-        return;
-    };
-    write(
-        rt,
-        streams,
-        rules,
-        lengths,
-        basics::part(&bodies, 0, length),
-        space,
-    );
+    if let Ok(length) = read_bodies(rt, program, lengths, &mut bodies, space) {
+        write(
+            rt,
+            program,
+            rules,
+            lengths,
+            basics::part(&bodies, 0, length),
+            space,
+        );
+    }
 }
 
 fn main(rt: HostRuntime) {
-    let streams = Streams {
-        input: rt.stdin(),
-        output: rt.stdout(),
-        error: rt.stderr(),
-    };
+    let mut program = Program::new("pack", &rt);
     let mut space = [0u8; arguments::ROOM];
     if arguments::is_word(&rt, 1, b"--help", &mut space) {
-        words::help(streams);
+        program.tell(program.output.write_all(words::HELP));
         return;
     }
     // The program's name, and two arguments for each rule.
     let count = arguments::count(&rt);
-    if count < 3 {
-        words::usage(streams);
+    if count < 3 || count % 2 == 0 {
+        words::usage(program);
         return;
     }
-    if count % 2 == 0 {
-        words::usage(streams);
-        return;
-    }
-    pack(&rt, streams, basics::least_of(count / 2, MOST), &mut space);
+    pack(&rt, program, basics::least_of(count / 2, MOST), &mut space);
 }

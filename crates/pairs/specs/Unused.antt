@@ -1,11 +1,11 @@
--- What a search by pairs is handed beside the square.
-use Rattle.std.specs.Prelude.{List, ℕ, ◌*◌, ◌≤◌, length}
-use Rattle.theory.specs.Monitor.{symbol_limit}
+-- What a search by pairs begins with.
+use Rattle.std.specs.Prelude.{◌≡◌, ℕ, ◌^◌, ◌-◌, ◌<◌, get_or}
+use Rattle.square.specs.Square.{Blank}
+use Rattle.rows.specs.declared.search.Search.{Search}
 use Rattle.rows.specs.Sets.{Empty}
 
--- the arrays that it is handed: the sets of alike and fresh states are empty, and there is room for n states
-pub record Unused (n : ℕ) (alike fresh next predecessors : List ℕ) : Type 0 where
-  pub alike_none : Empty n alike
-  pub fresh_none : Empty n fresh
-  pub next_none : Empty n next
-  pub predecessors_size : n * symbol_limit * 2 ≤ length predecessors
+-- for n states no pair is told apart, the sets of alike states are empty, and every row is active
+pub record Unused (n : ℕ) (search : Search) : Type 0 where
+  pub blank : Blank n search.square.now
+  pub alike_none : Empty n search.alike
+  pub active_all : (i : ℕ) → i < 4 → get_or search.active i 0 ≡ 2 ^ 64 - 1

@@ -1,169 +1,158 @@
-// A partition of the states into blocks, in an array of numbers and an array of sets: block c is set c. The square says
-// "not told apart" of two states of one block; where a block is split, it is given the distance of those that part.
+// A partition of the states into blocks. The square says "not told apart" of two states of one block; where a block is
+// split, it is given the distance of those that part.
 #![tactic(auto)]
 
-ghost use Rattle.std.specs.Prelude.{◌≡◌, true, ℕ, ◌*◌, ◌≤◌, ◌<◌, eqb, length};
+ghost use Rattle.std.specs.Prelude.{◌≡◌, true, List, ℕ, ◌≤◌, ◌<◌, eqb, length, get_or};
 ghost use Rattle.theory.specs.Monitor.{state_limit};
-ghost use Rattle.state_set.specs.Member.{in_part, member};
-ghost use Rattle.square.specs.Square.{never, HasRows};
-ghost use Rattle.rows.specs.Sets.{Within};
-ghost use Rattle.partition.specs.Blocks.{block, Partition, between, Entries, Numbered, Split};
+ghost use Rattle.state_set.specs.Member.{member};
+ghost use Rattle.square.specs.Square.{never, Blank};
+ghost use Rattle.partition.specs.Blocks.{block, in_set, Partition, between, Entries, Numbered, Split};
 ghost use Rattle.partition.specs.Blocks.{Finer, Parts, Divided};
 
 use state_set::StateSet;
-use theory::STATE_LIMIT;
+use theory::{SQUARE_SIZE, STATE_LIMIT};
 
-// ---- a split
+// ---- entries
 
-// Enters d for p with each state of a word of part w, both ways.
-fn enter_with(square: &mut [u16], n: usize, p: usize, word: u64, w: usize, d: u16)
-    requires { (n ≤ state_limit)
-        × HasRows n square.old
-        × (p < n)
-        × Within n (in_part w word)
-        × (w < 2) }
-    ensures { Entries n square.old (between (λ x. eqb x p) (in_part w word)) d square.new }
+// Enters d for p with each state of a set, both ways.
+fn enter_with(square: &mut [u16; SQUARE_SIZE], p: usize, others: StateSet, d: u16)
+    requires { p < state_limit }
+    ensures { Entries square.old (between (λ x. eqb x p) (member others)) d square.new }
 {
-    let mut left = word;
-    while left != 0 {
-        let q = state_set::lowest_of(left, w);
+    for q in others.states() {
         square[p * STATE_LIMIT + q] = d;
         square[q * STATE_LIMIT + p] = d;
-        left = state_set::without_lowest(left);
     }
 }
 
-// The same for each state of a word of part w with each of the others.
-fn enter_across(square: &mut [u16], n: usize, word: u64, w: usize, others: StateSet, d: u16)
-    requires { (n ≤ state_limit)
-        × HasRows n square.old
-        × Within n (in_part w word)
-        × Within n (member others)
-        × (w < 2) }
-    ensures { Entries n square.old (between (in_part w word) (member others)) d
-        square.new }
+// The same for each state of one set with each of the other.
+fn enter_across(square: &mut [u16; SQUARE_SIZE], one: StateSet, others: StateSet, d: u16)
+    ensures { Entries square.old (between (member one) (member others)) d square.new }
 {
-    let mut left = word;
-    while left != 0 {
-        let p = state_set::lowest_of(left, w);
-        enter_with(square, n, p, others.low(), 0, d);
-        enter_with(square, n, p, others.high(), 1, d);
-        left = state_set::without_lowest(left);
+    for p in one.states() {
+        enter_with(square, p, others, d);
     }
 }
 
-// Puts the states of a word of part w in block c.
-fn renumber(numbers: &mut [u8], n: usize, word: u64, w: usize, c: u8)
-    requires { (n ≤ length numbers.old)
-        × Within n (in_part w word)
-        × (w < 2) }
-    ensures { Numbered n numbers.old (in_part w word) c numbers.new }
-{
-    let mut left = word;
-    while left != 0 {
-        let q = state_set::lowest_of(left, w);
-        numbers[q] = c;
-        left = state_set::without_lowest(left);
-    }
+// ---- blocks
+
+// The blocks of the states: block c has the states of set c, each of them its number.
+#[derive(Drop)]
+pub struct Blocks {
+    numbers: [u8; STATE_LIMIT],
+    pub count: usize,
+    members: [StateSet; STATE_LIMIT],
 }
 
-// Splits block b: the ones become block c, the others keep the number. Enters d for each two states that are parted.
-fn split(
-    square: &mut [u16],
-    numbers: &mut [u8],
-    members: &mut [u64],
-    n: usize,
-    b: usize,
-    one: StateSet,
-    others: StateSet,
-    c: usize,
-    d: u16,
-)
-    requires { (n ≤ state_limit)
-        × HasRows n square.old
-        × (n ≤ length numbers.old)
-        × (n * 2 ≤ length members.old)
-        × (b < n)
-        × (c < n)
-        × Within n (member one)
-        × Within n (member others) }
-    ensures { Split n b (member one) (member others) c d
-        square.old numbers.old members.old
-        square.new numbers.new members.new }
-{
-    others.write(members, b);
-    one.write(members, c);
-    let low = one.low();
-    let high = one.high();
-    renumber(numbers, n, low, 0, c as u8);
-    renumber(numbers, n, high, 1, c as u8);
-    enter_across(square, n, low, 0, others, d);
-    enter_across(square, n, high, 1, others, d);
-}
-
-// ---- blocks split by a set
-
-// Splits block b, which has a state in the set, where it has one that is not in it: the smaller part becomes the block
-// `count`. Returns how many blocks there are.
-fn split_block(
-    square: &mut [u16],
-    numbers: &mut [u8],
-    members: &mut [u64],
-    n: usize,
-    b: usize,
-    set: StateSet,
-    count: usize,
-    d: u16,
-) -> usize
-    requires { (n ≤ state_limit)
-        × Partition n count square.old numbers.old members.old
-        × ((q : ℕ) × (q < n) × (block numbers.old q ≡ b) × (member set q ≡ true))
-        × (d < never) }
-    ensures blocks { Partition n result square.new numbers.new members.new }
-    ensures finer { Finer n d (Parts (member set)) count square.old numbers.old
-        result square.new numbers.new }
-    ensures stable { (p q : ℕ) → p < n → q < n → block numbers.old p ≡ b
-        → block numbers.new p ≡ block numbers.new q → member set p ≡ member set q }
-{
-    let block = StateSet::read(members, b);
-    let inside = block.intersection(set);
-    let outside = block.minus(set);
-    if state_set::is_empty(outside) {
-        return count;
+impl Blocks {
+    // The states below n in one block.
+    pub fn one(n: usize) -> Self
+        requires { n ≤ state_limit }
+        ensures blocks { (square : List ℕ) → Blank n square → Partition n square result }
+        ensures few { result.count ≤ 1 }
+    {
+        let mut blocks = Blocks {
+            numbers: [0u8; STATE_LIMIT],
+            count: n.min(1),
+            members: [StateSet::empty(); STATE_LIMIT],
+        };
+        blocks.members[0] = rows::all_below(n);
+        blocks
     }
-    if inside.count() <= outside.count() {
-        split(square, numbers, members, n, b, inside, outside, count, d);
-        return count + 1;
-    }
-    split(square, numbers, members, n, b, outside, inside, count, d);
-    count + 1
-}
 
-// Splits every block that has a state in the set and one that is not in it. Returns how many blocks there are.
-pub fn split_by(
-    square: &mut [u16],
-    numbers: &mut [u8],
-    members: &mut [u64],
-    n: usize,
-    set: StateSet,
-    count: usize,
-    d: u16,
-) -> usize
-    requires { (n ≤ state_limit)
-        × Partition n count square.old numbers.old members.old
-        × (d < never) }
-    ensures { Divided n d (member set) count square.old numbers.old
-        result square.new numbers.new members.new }
-{
-    let mut left = set;
-    let mut made = count;
-    loop {
-        let q = left.lowest();
-        if q >= n {
-            return made;
+    // The states of block c.
+    pub fn states_of(&self, c: usize) -> StateSet
+        requires { c < state_limit }
+        ensures { (q : ℕ) → member result q ≡ in_set self.now.members c q }
+    {
+        self.members[c]
+    }
+
+    // The numbers of the blocks of the states below n.
+    pub fn numbers_below(&self, n: usize) -> &[u8]
+        requires { n ≤ state_limit }
+        ensures long { length result.now ≡ n }
+        ensures each { (q : ℕ) → q < n → get_or result.now q 0 ≡ block self.now q }
+    {
+        &self.numbers[..n]
+    }
+
+    // Puts the states of a set in block c.
+    fn renumber(&mut self, set: StateSet, c: u8)
+        ensures { Numbered self.old (member set) c self.new }
+    {
+        for q in set.states() {
+            self.numbers[q] = c;
         }
-        let b = numbers[q] as usize;
-        left = left.minus(StateSet::read(members, b));
-        made = split_block(square, numbers, members, n, b, set, made, d);
+    }
+
+    // Splits block b: the ones become a new block, the others keep the number. Enters d for each two states that are
+    // parted.
+    fn split(
+        &mut self,
+        square: &mut [u16; SQUARE_SIZE],
+        b: usize,
+        one: StateSet,
+        others: StateSet,
+        d: u16,
+    )
+        requires { (b < state_limit)
+            × (self.old.count < state_limit) }
+        ensures { Split b (member one) (member others) d square.old self.old square.new self.new }
+    {
+        let new = self.count;
+        self.members[b] = others;
+        self.members[new] = one;
+        self.renumber(one, new as u8);
+        self.count = new + 1;
+        enter_across(square, one, others, d);
+    }
+
+    // Splits block b, which has a state in the set, where it has one that is not in it: the smaller part becomes a new
+    // block.
+    fn split_block(
+        &mut self,
+        square: &mut [u16; SQUARE_SIZE],
+        n: usize,
+        b: usize,
+        set: StateSet,
+        d: u16,
+    )
+        requires { Partition n square.old self.old
+            × ((q : ℕ) × (q < n) × (block self.old q ≡ b) × (member set q ≡ true))
+            × (d < never) }
+        ensures blocks { Partition n square.new self.new }
+        ensures finer { Finer n d (Parts (member set)) square.old self.old square.new self.new }
+        ensures stable { (p q : ℕ) → p < n → q < n → block self.old p ≡ b
+            → block self.new p ≡ block self.new q → member set p ≡ member set q }
+    {
+        let block = self.states_of(b);
+        let inside = block.intersection(set);
+        let outside = block.minus(set);
+        if outside.is_empty() {
+            return;
+        }
+        if inside.count() <= outside.count() {
+            self.split(square, b, inside, outside, d);
+            return;
+        }
+        self.split(square, b, outside, inside, d);
+    }
+
+    // Splits every block that has a state in the set and one that is not in it.
+    pub fn split_by(&mut self, square: &mut [u16; SQUARE_SIZE], n: usize, set: StateSet, d: u16)
+        requires { Partition n square.old self.old
+            × (d < never) }
+        ensures { Divided n d (member set) square.old self.old square.new self.new }
+    {
+        let mut left = set;
+        // A while: a turn takes away the whole block of a state.
+        while let Some(q) = left.first()
+            && q < n
+        {
+            let b = self.numbers[q] as usize;
+            left = left.minus(self.states_of(b));
+            self.split_block(square, n, b, set, d);
+        }
     }
 }

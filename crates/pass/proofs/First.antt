@@ -11,12 +11,13 @@ use lib.ListN.{length, set}
 use borrow.Author.Tests.{eq-eqb, ne_eqb, lt-ltb, le-ltb, ltb-true}
 use Rattle.theory.specs.Monitor.{state_limit}
 use Rattle.theory.proofs.Below.{clash, lt_or_le, same_or_not, or_right, and_left}
-use Rattle.state_set.specs.Member.{set_at, Put}
+use Rattle.state_set.specs.Member.{member, set_at, Put}
 use Rattle.square.specs.declared.Test.{Test}
 use Rattle.square.specs.Square.{never, place, HasRows, entry, passing, Blank}
+use Rattle.rows.specs.declared.search.Fresh.{Fresh}
 use Rattle.rows.specs.Sets.{Empty, Entered}
+use Rattle.rows.specs.Searching.{Bare}
 use Rattle.rows.proofs.Gather.{entered_one}
-use Rattle.rows.proofs.Row.{kept_rows}
 use Rattle.pass.specs.declared.Position.{Position}
 use Rattle.pass.specs.Pass.{start, next, pair}
 use Rattle.pass.specs.Begun.{Begun, PairBegun, RowDone}
@@ -27,20 +28,20 @@ pub zero_where : (c : Bool) → eqb (cond c 0 never) 0 ≡ c
 zero_where true = refl
 zero_where false = refl
 
-pub begun_none : {test : Test} {outs square alike fresh : List ℕ} → length outs ≤ state_limit → Blank (length outs) square
-    → Empty (length outs) alike → Empty (length outs) fresh → Begun test outs 0 0 square alike fresh (λ q. false)
+pub begun_none : {test : Test} {outs square alike : List ℕ} {fresh : Fresh} → length outs ≤ state_limit → Blank (length outs) square
+    → Empty (length outs) alike → Bare (length outs) fresh → Begun test outs 0 0 square alike fresh.sets (member fresh.rows)
 begun_none {outs = outs} {square = square} small blank A F = record {
   kept = record {
     size = blank.size;
     alike_size = A.size;
-    fresh_size = F.size;
+    fresh_size = F.sets.size;
     alike_is = λ p q l. absurd (omega arith);
     fresh_is = λ p q l. absurd (omega arith);
-    rows_some = λ p t. absurd (clash t refl);
+    rows_some = λ p t. absurd (clash t (F.rows p));
     rows_all = λ p q l. absurd (omega arith);
   };
   entries = λ p q lp lq. filled p q lp lq ∙ rw (le-ltb (p * length outs + q) 0 zero-le);
-  noted = λ p q lp. F.none p q lp ∙ ⊎_elim
+  noted = λ p q lp. F.sets.none p q lp ∙ ⊎_elim
       (λ (lq : q < length outs). rw (lt-ltb q (length outs) lq, filled p q lp lq))
       (λ out. rw (le-ltb q (length outs) out))
       (lt_or_le q (length outs));
@@ -48,10 +49,6 @@ begun_none {outs = outs} {square = square} small blank A F = record {
   where
     filled : (p q : ℕ) → p < length outs → q < length outs → entry square p q ≡ never
     filled p q lp lq = blank.filled (place p q) (let r = blank.size in omega (arith, lp, lq, small, r))
-
-begun_rows : {test : Test} {outs : List ℕ} {row number : ℕ} {square alike fresh : List ℕ} {rows rows' : ℕ → Bool}
-    → Begun test outs row number square alike fresh rows → ((q : ℕ) → rows' q ≡ rows q) → Begun test outs row number square alike fresh rows'
-begun_rows b e = record { kept = kept_rows b.kept e; entries = b.entries; noted = b.noted }
 
 -- ---- what is done for a pair, and at the end of a row
 
@@ -256,9 +253,9 @@ pub record Walking (test : Test) (outs : List ℕ) (at : Position) (square alike
   pub on : On (length outs) at
   pub begun : Begun test outs at.row at.number square alike fresh rows
 
-pub walking_none : {test : Test} {outs square alike fresh : List ℕ} {rows rows' : ℕ → Bool} {at : Position} → Begun test outs 0 0 square alike fresh rows
-    → at ≡ start → ((q : ℕ) → rows' q ≡ rows q) → Walking test outs at square alike fresh rows'
-walking_none b e same = rw e (record { most = zero-le; on = on_start; begun = begun_rows b same })
+pub walking_none : {test : Test} {outs square alike fresh : List ℕ} {rows : ℕ → Bool} {at : Position} → Begun test outs 0 0 square alike fresh rows
+    → at ≡ start → Walking test outs at square alike fresh rows
+walking_none b e = rw e (record { most = zero-le; on = on_start; begun = b })
 
 module _ {test : Test} {outs : List ℕ} {at : Position} {square alike fresh : List ℕ} {rows : ℕ → Bool} (W : Walking test outs at square alike fresh rows) where
   pub walking_over : length outs * length outs ≤ at.number → Begun test outs (length outs) (length outs * length outs) square alike fresh rows

@@ -1,7 +1,7 @@
 -- A pass over the pairs of states visits each once, in the order of their numbers.
 use mathlib.Core.Path.{◌≡◌, refl, sym, ap, subst, ◌∙◌}
 use mathlib.Core.Logic.{⊎_elim}
-use Prim.Native.Nat.{ℕ, zero, suc, ◌+◌, ◌*◌, ◌/◌, ◌%◌, ◌<◌}
+use Prim.Native.Nat.{ℕ, zero, suc, ◌+◌, ◌*◌, ◌/◌, ◌%◌, ◌≤◌, ◌<◌}
 use native.Mathlib.Nat.{add-mul, mul-le-mul_right}
 use native.Mathlib.Numerals.{add-one}
 use native.Mathlib.Omega.{arith}
@@ -34,7 +34,7 @@ along_next {n} {k} at A =
     ⊎_elim
     (λ (along : at.column + 1 < n).
     rw (ne_eqb (at.column + 1) n (λ x. omega (arith, x, along))) (record { numbered = omega (arith, e); column_below = along }))
-    (λ ends.
+    (λ (ends : n ≤ at.column + 1).
     let last : at.column + 1 ≡ n = omega (arith, l, ends) in
     let m = add-mul at.row 1 n in
     rw (eq-eqb (at.column + 1) n last) (record { numbered = omega (arith, e, m, last); column_below = omega (arith, l) }))

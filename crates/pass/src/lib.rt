@@ -4,16 +4,17 @@
 // A pass visits all pairs. The rounds are no passes: they take rows and states from sets, and number no pair.
 #![tactic(auto)]
 
-ghost use Rattle.std.specs.Prelude.{◌≡◌, false, ℕ, ◌+◌, ◌*◌, ◌≤◌, ◌<◌, ltb, length};
+ghost use Rattle.std.specs.Prelude.{◌≡◌, ℕ, ◌+◌, ◌*◌, ◌≤◌, ◌<◌, ltb, length};
 ghost use Rattle.theory.specs.Monitor.{state_limit};
 ghost use Rattle.state_set.specs.Member.{member};
-ghost use Rattle.square.specs.Square.{HasRows};
+ghost use Rattle.rows.specs.Searching.{Stays};
 ghost use Rattle.pass.specs.Pass.{start, pair};
 ghost use Rattle.pass.specs.Begun.{Begun, PairBegun, RowDone};
 
+use rows::{Fresh, Search};
 use square::Test;
-use state_set::StateSet;
-use theory::STATE_LIMIT;
+use state_set::{StateSet, WORDS};
+use theory::{SQUARE_SIZE, STATE_LIMIT};
 
 // Where a pass is: the row, the column and the number of a pair, from 0. After the last pair of n states the row is n.
 #[derive(Drop)]
@@ -60,66 +61,66 @@ fn next_pair(at: Position, n: usize) -> Position
 // ---- the square before the first round
 
 // Enters 0 for p and q where the test tells them apart, and adds q to the fresh states of row p.
-fn begin_pair(square: &mut [u16], fresh: &mut [u64], outputs: &[u8], test: Test, p: usize, q: usize)
+fn begin_pair(
+    square: &mut [u16; SQUARE_SIZE],
+    fresh: &mut Fresh,
+    outputs: &[u8],
+    test: Test,
+    p: usize,
+    q: usize,
+)
     requires { (length outputs.now ≤ state_limit)
         × (p < length outputs.now)
-        × (q < length outputs.now)
-        × HasRows (length outputs.now) square.old
-        × (length outputs.now * 2 ≤ length fresh.old) }
-    ensures { PairBegun test outputs.now p q
-        square.old fresh.old square.new fresh.new }
+        × (q < length outputs.now) }
+    ensures begun { PairBegun test outputs.now p q square.old fresh.old.sets square.new fresh.new.sets }
+    ensures rows { fresh.new.rows ≡ fresh.old.rows }
 {
     if test.passes(outputs, p, q) {
         square[p * STATE_LIMIT + q] = 0;
-        StateSet::read(fresh, p).with(q).write(fresh, p);
+        StateSet::read(&fresh.sets, p)
+            .with(q)
+            .write(&mut fresh.sets, p);
     }
 }
 
-// Sets the states alike to p, once its fresh ones are known: all others, p itself left out. Returns the rows that have
-// a fresh state, beside those given.
-fn end_row(alike: &mut [u64], fresh: &[u64], all: StateSet, p: usize, rows: StateSet) -> StateSet
-    requires { (p < state_limit)
-        × (p * 2 + 1 < length alike.old)
-        × (p * 2 + 1 < length fresh.now) }
-    ensures { (n : ℕ) → ((q : ℕ) → member all q ≡ ltb q n)
-        → RowDone n p fresh.now alike.old (member rows) alike.new (member result) }
+// Sets the states alike to p, once its fresh ones are known: all others, p itself left out. Where p has a fresh state
+// it becomes one of the rows that have.
+fn end_row(alike: &mut [u64; STATE_LIMIT * WORDS], fresh: &mut Fresh, all: StateSet, p: usize)
+    requires { p < state_limit }
+    ensures done { (n : ℕ) → ((q : ℕ) → member all q ≡ ltb q n)
+        → RowDone n p fresh.old.sets alike.old (member fresh.old.rows) alike.new (member fresh.new.rows) }
+    ensures fresh { fresh.new.sets ≡ fresh.old.sets }
 {
-    let apart = StateSet::read(fresh, p);
+    let apart = StateSet::read(&fresh.sets, p);
     all.minus(apart).without(p).write(alike, p);
-    if state_set::is_empty(apart) {
-        return rows;
+    if apart.is_empty() {
+        return;
     }
-    rows.with(p)
+    fresh.rows = fresh.rows.with(p);
 }
 
-// The pass before the first round. Returns the rows that have a pair at 0.
-pub fn begin(
-    square: &mut [u16],
-    alike: &mut [u64],
-    fresh: &mut [u64],
-    outputs: &[u8],
-    all: StateSet,
-    test: Test,
-) -> StateSet
+// The pass before the first round: afterwards the pairs at 0 are fresh.
+pub fn begin(search: &mut Search, fresh: &mut Fresh, outputs: &[u8], all: StateSet, test: Test)
     requires { (length outputs.now ≤ state_limit)
         × ((q : ℕ) → member all q ≡ ltb q (length outputs.now))
-        × Begun test outputs.now 0 0 square.old alike.old fresh.old (λ q. false) }
-    ensures { Begun test outputs.now (length outputs.now)
+        × Begun test outputs.now 0 0 search.old.square.now search.old.alike fresh.old.sets (member fresh.old.rows) }
+    ensures begun { Begun test outputs.now (length outputs.now)
         (length outputs.now * length outputs.now)
-        square.new alike.new fresh.new (member result) }
+        search.new.square.now search.new.alike fresh.new.sets (member fresh.new.rows) }
+    ensures active { search.new.active ≡ search.old.active }
+    ensures stays { Stays search.old search.new }
 {
     let n = outputs.len();
-    let mut rows = StateSet::empty();
     let mut at = first_pair();
+    // A while: the step of the pass counts the pairs itself.
     while at.number < n * n {
-        begin_pair(square, fresh, outputs, test, at.row, at.column);
+        begin_pair(search.square, fresh, outputs, test, at.row, at.column);
         // The step stands in both branches: in each the compiler knows whether the row ends, and has less to do.
         if at.column + 1 == n {
-            rows = end_row(alike, fresh, all, at.row, rows);
+            end_row(&mut search.alike, fresh, all, at.row);
             at = next_pair(at, n);
         } else {
             at = next_pair(at, n);
         }
     }
-    rows
 }

@@ -6,69 +6,73 @@
 
 ghost use Rattle.std.specs.Prelude.{◌+◌, ◌≤◌, ◌<◌, length};
 
-use basics::Writing;
-use output::{Output, Program, Streams};
-use rows::PREDECESSORS;
-use theory::SQUARE_SIZE;
+use output::Program;
+use pairs::Workspace;
+use printing::{Accepted, Answer, ClassesWords, Counted, Numbers, StepWords, TraceWords, Written};
+use std::io::{Result, Write};
 use witness::WITNESS_ROOM;
 
+// What is lent to the searches.
+#[derive(Drop)]
+struct Lent {
+    workspace: Workspace,
+    witnesses: [u8; WITNESS_ROOM],
+}
+
 // Call 1: the first number is the length of the area, which is full of 255 before the call.
-fn classify(out: Output, room: usize, body: &[u8]) -> Output {
+fn classify(out: &mut impl Write, room: usize, body: &[u8]) -> Result<()> {
     let mut area = [255u8; 256];
-    if room <= 256 {
-        let lent = &mut area[0..room];
-        let answered = printing::classification(out, classes::classify(body, lent));
-        return printing::bytes(answered, lent);
+    if room > 256 {
+        return Ok(());
     }
-    out
+    let lent = &mut area[0..room];
+    let answer = Answer(classes::classify(body, lent).map(ClassesWords));
+    write!(out, "{answer}{}", Numbers(lent))
 }
 
 // Call 3, and every number that names no other call: the numbers are the reading and the length of the trace, which
 // stands before the body.
-fn trace(out: Output, domain: usize, length: usize, bytes: &[u8]) -> Output {
-    if length <= bytes.len() {
-        let answer = readings::trace(&bytes[length..], domain, &bytes[0..length]);
-        return printing::traced(out, answer);
+fn trace(out: &mut impl Write, domain: usize, length: usize, bytes: &[u8]) -> Result<()> {
+    if length > bytes.len() {
+        return Ok(());
     }
-    out
+    let answer = readings::trace(&bytes[length..], domain, &bytes[..length]);
+    write!(out, "{}", Answer(answer.map(TraceWords)))
 }
 
 // Call 4: the numbers are the fault set, the reading and the length of the area, which is full of 255 before the call.
 fn examine(
-    square: &mut [u16; SQUARE_SIZE],
-    predecessors: &mut [u64; PREDECESSORS],
-    out: Output,
+    out: &mut impl Write,
+    workspace: &mut Workspace,
     set: usize,
     domain: usize,
     room: usize,
     body: &[u8],
-) -> Output {
+) -> Result<()> {
     let mut area = [255u8; 256];
-    if room <= 256 {
-        let lent = &mut area[0..room];
-        let answer = immunity::examine_in(square, predecessors, body, set, domain, lent);
-        return printing::bytes(printing::counted_finding(out, answer), lent);
+    if room > 256 {
+        return Ok(());
     }
-    out
+    let lent = &mut area[0..room];
+    let answer = immunity::examine_in(workspace, body, set, domain, lent);
+    let finding = Answer(answer.map(|witness| Counted(printing::finding(witness))));
+    write!(out, "{finding}{}", Numbers(lent))
 }
 
 // Call 5: the card, as the listing's line of rule 0 has it between the rule number and the line feed.
-fn card(
-    square: &mut [u16; SQUARE_SIZE],
-    predecessors: &mut [u64; PREDECESSORS],
-    witnesses: &mut [u8; WITNESS_ROOM],
-    out: Output,
-    body: &[u8],
-) -> Output {
+fn card(out: &mut impl Write, lent: &mut Lent, body: &[u8]) -> Result<()> {
     let mut area = [0u8; 256];
-    let written = lines::write_line_in(square, predecessors, witnesses, 0, body, &mut area);
-    let Writing::Written { length } = written else {
-        return out;
-    };
-    if length >= 3 {
-        return out.text(basics::part(&area, 2, length - 3));
+    let written = lines::write_line_in(
+        &mut lent.workspace,
+        &mut lent.witnesses,
+        0,
+        body,
+        &mut area,
+    );
+    match written {
+        Ok(length) if length >= 3 => out.write_all(basics::part(&area, 2, length - 3)),
+        _ => Ok(()),
     }
-    out
 }
 
 // A number of two bytes, least byte first.
@@ -79,16 +83,20 @@ fn two_bytes(bytes: &[u8]) -> u16 {
 fn read_list(list: &mut [u16], bytes: &[u8])
     requires { length list.old < 256 }
 {
-    let mut i = 0;
-    while i < list.len() {
-        list[i] = two_bytes(basics::part(bytes, 2 * i, 2));
-        i += 1;
+    for (i, number) in list.iter_mut().enumerate() {
+        *number = two_bytes(basics::part(bytes, 2 * i, 2));
     }
 }
 
 // Call 6: the numbers are the lengths of the two lists and of the area, which is full of 255 before the call. Rule
 // numbers, body lengths and bodies stand one behind the other.
-fn write(out: Output, rules: usize, lengths: usize, room: usize, bytes: &[u8]) -> Output
+fn write(
+    out: &mut impl Write,
+    rules: usize,
+    lengths: usize,
+    room: usize,
+    bytes: &[u8],
+) -> Result<()>
     requires { (rules < 256)
         × (lengths < 256)
         × (room < 256) }
@@ -102,89 +110,80 @@ fn write(out: Output, rules: usize, lengths: usize, room: usize, bytes: &[u8]) -
     read_list(given_rules, bytes);
     read_list(given_lengths, basics::part(bytes, 2 * rules, 2 * lengths));
     let bodies = basics::part(bytes, 2 * rules + 2 * lengths, bytes.len());
-    let answer = writer::write(given_rules, given_lengths, bodies, lent);
-    printing::bytes(printing::writing(out, answer), lent)
+    let answer = Answer(writer::write(given_rules, given_lengths, bodies, lent).map(Written));
+    write!(out, "{answer}{}", Numbers(lent))
 }
 
 // Call 7: the numbers are the fault set, the reading and the verdict. The length of the area, which is full of 255
 // before the call, stands before the body in two bytes.
 fn believe(
-    square: &mut [u16; SQUARE_SIZE],
-    predecessors: &mut [u64; PREDECESSORS],
-    out: Output,
+    out: &mut impl Write,
+    workspace: &mut Workspace,
     set: usize,
     domain: usize,
     verdict: usize,
     bytes: &[u8],
-) -> Output {
+) -> Result<()> {
     let mut area = [255u8; 1024];
     let room = two_bytes(bytes) as usize;
-    if room <= 1024 {
-        let lent = &mut area[0..room];
-        let body = basics::part(bytes, 2, bytes.len());
-        let answer = trust::believe_in(square, predecessors, body, set, domain, verdict, lent);
-        return printing::bytes(printing::counted_trust(out, answer), lent);
+    if room > 1024 {
+        return Ok(());
     }
-    out
+    let lent = &mut area[0..room];
+    let body = basics::part(bytes, 2, bytes.len());
+    let answer = trust::believe_in(workspace, body, set, domain, verdict, lent);
+    let belief = Answer(answer.map(|witness| Counted(printing::belief(witness))));
+    write!(out, "{belief}{}", Numbers(lent))
 }
 
 // Call 8: the numbers are the fault set, the reading and the length of the proof, which stands before the body.
-fn proof(out: Output, set: usize, domain: usize, length: usize, bytes: &[u8]) -> Output {
-    if length <= bytes.len() {
-        let answer = certificate::check(&bytes[length..], set, domain, &bytes[0..length]);
-        return printing::judgement(out, answer);
+fn proof(
+    out: &mut impl Write,
+    set: usize,
+    domain: usize,
+    length: usize,
+    bytes: &[u8],
+) -> Result<()> {
+    if length > bytes.len() {
+        return Ok(());
     }
-    out
+    let answer = certificate::check(&bytes[length..], set, domain, &bytes[..length]);
+    write!(out, "{}", Answer(answer.map(|()| Accepted)))
 }
 
 // Call 9: the numbers are the reading and the length of the area, which is full of 255 before the call.
-fn list_blocks(out: Output, domain: usize, room: usize, body: &[u8]) -> Output {
+fn list_blocks(out: &mut impl Write, domain: usize, room: usize, body: &[u8]) -> Result<()> {
     let mut area = [255u8; 256];
-    if room <= 256 {
-        let lent = &mut area[0..room];
-        let answer = blocks::write(body, domain, lent);
-        return printing::bytes(printing::writing(out, answer), lent);
+    if room > 256 {
+        return Ok(());
     }
-    out
+    let lent = &mut area[0..room];
+    let answer = Answer(blocks::write(body, domain, lent).map(Written));
+    write!(out, "{answer}{}", Numbers(lent))
 }
 
 // The answer to a frame that has its numbers.
-fn answered(
-    square: &mut [u16; SQUARE_SIZE],
-    predecessors: &mut [u64; PREDECESSORS],
-    witnesses: &mut [u8; WITNESS_ROOM],
-    out: Output,
-    frame: &[u8],
-    bytes: &[u8],
-) -> Output {
+fn answer(out: &mut impl Write, lent: &mut Lent, frame: &[u8], bytes: &[u8]) -> Result<()> {
     let a = basics::byte_at(frame, 1);
     let b = basics::byte_at(frame, 2);
     let c = basics::byte_at(frame, 3);
     match basics::byte_at(frame, 0) {
-        0 => printing::judgement(out, monitor::judge(bytes)),
-        1 => classify(out, a, bytes),
-        2 => printing::stepped(out, readings::step(bytes, a, b, c)),
-        4 => examine(square, predecessors, out, a, b, c, bytes),
-        5 => card(square, predecessors, witnesses, out, bytes),
-        6 => write(out, a, b, c, bytes),
-        7 => believe(square, predecessors, out, a, b, c, bytes),
-        8 => proof(out, a, b, c, bytes),
-        9 => list_blocks(out, a, b, bytes),
-        _ => trace(out, a, b, bytes),
+        0 => write!(out, "{}", Answer(monitor::judge(bytes).map(|()| Accepted)))?,
+        1 => classify(out, a, bytes)?,
+        2 => write!(
+            out,
+            "{}",
+            Answer(readings::step(bytes, a, b, c).map(StepWords))
+        )?,
+        4 => examine(out, &mut lent.workspace, a, b, c, bytes)?,
+        5 => card(out, lent, bytes)?,
+        6 => write(out, a, b, c, bytes)?,
+        7 => believe(out, &mut lent.workspace, a, b, c, bytes)?,
+        8 => proof(out, a, b, c, bytes)?,
+        9 => list_blocks(out, a, b, bytes)?,
+        _ => trace(out, a, b, bytes)?,
     }
-}
-
-fn answer(
-    streams: Streams,
-    square: &mut [u16; SQUARE_SIZE],
-    predecessors: &mut [u64; PREDECESSORS],
-    witnesses: &mut [u8; WITNESS_ROOM],
-    frame: &[u8],
-) {
-    if frame.len() >= 4 {
-        let out = output::standard(streams, Program::Test);
-        answered(square, predecessors, witnesses, out, frame, &frame[4..]).text(b"\n");
-    }
+    writeln!(out)
 }
 
 fn wide(byte: u8) -> usize
@@ -207,43 +206,26 @@ fn frame_end(input: &[u8], at: usize) -> usize
     input.len()
 }
 
-fn answers(
-    streams: Streams,
-    square: &mut [u16; SQUARE_SIZE],
-    predecessors: &mut [u64; PREDECESSORS],
-    witnesses: &mut [u8; WITNESS_ROOM],
-    input: &[u8],
-) {
+fn answers(mut program: Program, lent: &mut Lent, input: &[u8]) {
     let mut at = 0;
+    // A while: a turn goes on behind a frame.
     while at + 2 <= input.len() {
         let end = frame_end(input, at);
-        answer(
-            streams,
-            square,
-            predecessors,
-            witnesses,
-            &input[at + 2..end],
-        );
+        let frame = &input[at + 2..end];
+        if frame.len() >= 4 {
+            program.tell(answer(&mut program.output, lent, frame, &frame[4..]));
+        }
         at = end;
     }
 }
 
 fn main(rt: HostRuntime) {
-    let streams = Streams {
-        input: rt.stdin(),
-        output: rt.stdout(),
-        error: rt.stderr(),
-    };
+    let program = Program::new("test", &rt);
     let mut input = [0u8; 65536];
     let length = io::read_full(0, &mut input);
-    let mut square = square::blank();
-    let mut predecessors = [0u64; PREDECESSORS];
-    let mut witnesses = [0u8; WITNESS_ROOM];
-    answers(
-        streams,
-        &mut square,
-        &mut predecessors,
-        &mut witnesses,
-        &input[..length],
-    );
+    let mut lent = Lent {
+        workspace: Workspace::new(),
+        witnesses: [0u8; WITNESS_ROOM],
+    };
+    answers(program, &mut lent, &input[..length]);
 }

@@ -11,8 +11,8 @@ use Rattle.theory.specs.Automaton.{Automaton, Closed, Trace, run, Reaches, leads
 use Rattle.theory.proofs.Below.{clash, is_true, both_ways, or_cases, or_left, or_right, and_left, and_right, and_both, any_at, any_find}
 use Rattle.theory.proofs.Reach.{Hits, hits_here, hits_step, run_append, trace_append, leads_sound, leads_complete, reached_sound, reached_complete}
 use Rattle.state_set.specs.Member.{set_at}
-use Rattle.reach.specs.Closure.{leads_to, Preceding, Joined}
-use Rattle.reach.proofs.Predecessors.{preceding_last}
+use Rattle.reach.specs.Closure.{leads_to, Joined}
+use Rattle.reach.proofs.Predecessors.{Preceding}
 
 -- ---- expanding: `done` are the states q below n for which what q adds has been added
 
@@ -68,13 +68,13 @@ module _ (g : Automaton) where
     arrives = run_append g s r.word (a ∷ []) ∙ ap (λ (x : ℕ). g.next x a) r.arrives;
   }
 
-  pub joined_reached : {s : ℕ} {seen : ℕ → Bool} → Closed g → s < g.states
-      → Joined g.states (λ q p. any g.symbols (leads_to g q p)) (λ p. eqb p s) seen → (q : ℕ) → seen q ≡ (ltb q g.states && reached_from g s q)
+  pub joined_reached : {s : ℕ} {f seen : ℕ → Bool} → Closed g → s < g.states → ((p : ℕ) → f p ≡ eqb p s)
+      → Joined g.states (λ q p. any g.symbols (leads_to g q p)) f seen → (q : ℕ) → seen q ≡ (ltb q g.states && reached_from g s q)
   unfolding Trace run
-  joined_reached {s} {seen} c l x q =
+  joined_reached {s} {f} {seen} c l only x q =
       both_ways (x.least inside begins goes q)
       (λ t. (let r = reached_sound g s q (and_right (ltb q g.states) (reached_from g s q) t) in
-      subst (λ (p : ℕ). seen p ≡ true) r.arrives (along s r.word l (x.holds s (eq-eqb s s refl)) r.trace)))
+      subst (λ (p : ℕ). seen p ≡ true) r.arrives (along s r.word l (x.holds s (only s ∙ eq-eqb s s refl)) r.trace)))
     where
       inside : ℕ → Bool
       inside p = ltb p g.states && reached_from g s p
@@ -82,8 +82,8 @@ module _ (g : Automaton) where
       is_inside : (p : ℕ) → p < g.states → Reaches g s p → inside p ≡ true
       is_inside p h r = and_both (ltb p g.states) (reached_from g s p) (lt-ltb p g.states h) (reached_complete c l r)
 
-      begins : (p : ℕ) → eqb p s ≡ true → inside p ≡ true
-      begins p e = subst (λ (z : ℕ). inside z ≡ true) (sym (eqb-true p s e)) (is_inside s l (reaches_self s))
+      begins : (p : ℕ) → f p ≡ true → inside p ≡ true
+      begins p e = subst (λ (z : ℕ). inside z ≡ true) (sym (eqb-true p s (sym (only p) ∙ e))) (is_inside s l (reaches_self s))
 
       goes : (p r : ℕ) → p < g.states → inside p ≡ true → any g.symbols (leads_to g p r) ≡ true → inside r ≡ true
       goes p r h t a =
@@ -118,7 +118,7 @@ module _ {g : Automaton} (c : Closed g) (f : ℕ → Bool) where
       (λ b. there q (ltb-true q g.states (and_left (ltb q g.states) (test q) b)) (and_right (ltb q g.states) (test q) b))
       (or_cases (f q) (ltb q g.states && test q) t)
 
-  pub joined_leads : {sets : List ℕ} {wide : ℕ → Bool} → Preceding g g.states 0 sets → Joined g.states (set_at sets) f wide
+  pub joined_leads : {sets : List ℕ} {wide : ℕ → Bool} → Preceding g sets → Joined g.states (set_at sets) f wide
       → (q : ℕ) → wide q ≡ (f q || (ltb q g.states && leads g f q))
   unfolding Trace run
   joined_leads {sets} {wide} P w q =
@@ -131,7 +131,7 @@ module _ {g : Automaton} (c : Closed g) (f : ℕ → Bool) where
 
       enter : (q p : ℕ) → q < g.states → or_at (leads g f) q ≡ true → set_at sets q p ≡ true → or_at (leads g f) p ≡ true
       enter q p l t a =
-          let b = sym (preceding_last P q p l) ∙ a in
+          let b = sym (P.at q p l) ∙ a in
           let s = any_find g.symbols (leads_to g p q) (and_right (ltb p g.states) (any g.symbols (leads_to g p q)) b) in
           let m = ltb-true p g.states (and_left (ltb p g.states) (any g.symbols (leads_to g p q)) b) in
           or_there (leads g f) p m (leads_complete g f c p m (hits_step g f p s.0 s.1
@@ -142,7 +142,7 @@ module _ {g : Automaton} (c : Closed g) (f : ℕ → Bool) where
       along p (a ∷ v) l h e =
           let z = g.next p a in
           let m = c.next_in p a l h.0 in
-          w.full z p m (along z v m h.1 e) (preceding_last P z p m
+          w.full z p m (along z v m h.1 e) (P.at z p m
           ∙ and_both (ltb p g.states) (any g.symbols (leads_to g p z)) (lt-ltb p g.states l)
           (any_at g.symbols (leads_to g p z) a h.0 (eq-eqb z z refl)))
 

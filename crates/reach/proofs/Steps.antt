@@ -1,8 +1,7 @@
--- One turn of the loop over symbols, and the end of it.
+-- A state added to a set, and one turn of the loop over symbols.
 use mathlib.Core.Path.{◌≡◌, sym, ap, ◌∙◌}
-use mathlib.Core.Bool.{Bool, ◌&&◌, ◌||◌, and-true}
-use Prim.Native.Nat.{ℕ, ◌+◌, ◌≤◌, ◌<◌}
-use native.Mathlib.Nat.{le_antisymm}
+use mathlib.Core.Bool.{Bool, false, ◌&&◌, ◌||◌, and-true}
+use Prim.Native.Nat.{ℕ, ◌+◌, ◌<◌}
 use lib.Dec.{eqb, ltb}
 use borrow.Author.Tests.{lt-ltb}
 use Rattle.theory.specs.Below.{any}
@@ -14,8 +13,10 @@ use Rattle.reach.specs.Closure.{leads_to}
 pub with_in : (limit q : ℕ) (old new : ℕ → Bool) → q < limit → ((p : ℕ) → new p ≡ (old p || (eqb p q && ltb q limit))) → (p : ℕ) → new p ≡ (old p || eqb p q)
 with_in limit q old new l e p = e p ∙ rw (lt-ltb q limit l, and-true)
 
-pub any_end : {a k : ℕ} (f : ℕ → Bool) → a ≤ k → k ≤ a → any a f ≡ any k f
-any_end f l h = ap (λ (x : ℕ). any x f) (le_antisymm l h)
+-- the set of one state
+pub with_only : (limit q : ℕ) {none one : ℕ → Bool} → q < limit → ((p : ℕ) → none p ≡ false) → ((p : ℕ) → one p ≡ (none p || (eqb p q && ltb q limit)))
+    → (p : ℕ) → one p ≡ eqb p q
+with_only limit q {none} {one} l n e p = with_in limit q none one l e p ∙ ap (λ (b : Bool). b || eqb p q) (n p)
 
 -- the set that holds what the first a symbols lead to, with what the next one leads to
 pub successors_turn : (g : Automaton) (q a limit s : ℕ) (old new : ℕ → Bool) → s ≡ g.next q a → s < limit

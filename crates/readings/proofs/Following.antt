@@ -14,7 +14,7 @@ use Rattle.theory.specs.Monitor.{Monitor, WellFormed, marked, reading}
 use Rattle.theory.specs.Count.{later, count_from}
 use Rattle.theory.proofs.Count.{later_none, later_later, count_now, verdict_lasts, reads_alike}
 use Rattle.readings.specs.Following.{until_verdict, Followed}
-use Rattle.readings.specs.declared.Progress.{Progress}
+use Rattle.readings.specs.declared.answers.Progress.{Progress}
 
 module _ (m : Monitor) where
   until_verdict_lem : (q : ℕ) (w : List ℕ) → marked m 0 q ≡ false → until_verdict m q w ≡ []
@@ -31,9 +31,6 @@ pub record Onward (m : Monitor) (from : ℕ) (w : List ℕ) (q i : ℕ) : Type 0
   pub inside : q < m.automaton.states
   pub state : run m.automaton from (until_verdict m from w) ≡ run m.automaton q (until_verdict m q (drop i w))
   pub read : length (until_verdict m from w) ≡ i + length (until_verdict m q (drop i w))
-
-pub onward_first : (m : Monitor) (q : ℕ) (w : List ℕ) → q < m.automaton.states → Onward m q w q 0
-onward_first m q w l = record { inside = l; state = refl; read = omega arith }
 
 module _ {m : Monitor} {from : ℕ} {w : List ℕ} {q i : ℕ} (o : Onward m from w q i) where
   pub onward_turn : {r : ℕ} → i < length w → m.verdict q ≡ 0 → r ≡ m.automaton.next q (get_or w i 0) → r < m.automaton.states → Onward m from w r (i + 1)
@@ -58,9 +55,9 @@ module _ {m : Monitor} {from : ℕ} {w : List ℕ} {q i : ℕ} (o : Onward m fro
   pub onward_stops : (m.verdict q ≡ 0 → ⊥) → Followed m from w (record { state = q; read = i })
   onward_stops n = left (until_verdict_lem m q (drop i w) (ne_eqb (m.verdict q) 0 n))
 
-  pub onward_ends : length w ≤ i → Followed m from w (record { state = q; read = i })
+  pub onward_ends : i ≡ length w → Followed m from w (record { state = q; read = length w })
   unfolding until_verdict
-  onward_ends l = left (ap (until_verdict m q) (drop_of_length-le w l))
+  onward_ends e = rw (← e) (left (ap (until_verdict m q) (drop_of_length-le w (omega (arith, e)))))
 
 -- no more is read than there is
 module _ (m : Monitor) where

@@ -2,7 +2,7 @@
 use Rattle.std.specs.Prelude.{◌≡◌, cond, List, [], ◌∷◌, ℕ, ◌<◌, length}
 use Rattle.theory.specs.Automaton.{run}
 use Rattle.theory.specs.Monitor.{Monitor, marked}
-use Rattle.readings.specs.declared.Progress.{Progress}
+use Rattle.readings.specs.declared.answers.Progress.{Progress}
 
 -- the symbols of w that are read from state q on until a verdict falls; all of them where none falls
 unfoldable pub until_verdict : Monitor → ℕ → List ℕ → List ℕ

@@ -1,16 +1,16 @@
 -- The calls that answer a step and a trace.
-use Rattle.std.specs.Prelude.{List, [], ◌∷◌, ◌++◌, ℕ}
+use Rattle.std.specs.Prelude.{List, [], ◌∷◌, ◌++◌, ℕ, Option, Some, None, Result}
 use Rattle.theory.specs.Extent.{Extent, number, missing}
-use Rattle.theory.specs.Answer.{Question, Answer, answered, asks}
+use Rattle.theory.specs.Answer.{Question, Answer, asks}
 use Rattle.theory.specs.Monitor.{Monitor, reading}
 use Rattle.theory.specs.Count.{verdict_count}
 use Rattle.theory.specs.Distance.{reads}
-use Rattle.basics.specs.Refusals.{refusal}
+use Rattle.basics.specs.Refusals.{answer_by}
+use Rattle.basics.specs.declared.refusal.Refusal.{Refusal}
 use Rattle.monitor.specs.Format.{monitor_of}
 use Rattle.monitor.specs.Questions.{table_questions, question10, question11, question12}
-use Rattle.readings.specs.declared.Stepped.{Stepped}
-use Rattle.readings.specs.declared.Count.{Count}
-use Rattle.readings.specs.declared.Traced.{Traced}
+use Rattle.readings.specs.declared.answers.Step.{Step}
+use Rattle.readings.specs.declared.answers.Traced.{Traced}
 
 -- a step asks 1 to 8, 10, 11, 12; "its one message has place 0"
 abbrev pub step_questions : ℕ → ℕ → ℕ → Monitor → List Question
@@ -45,16 +45,14 @@ trace_answer limit b d w =
     asks (table_questions limit b ++ trace_questions d w (monitor_of b)) (trace_figures d w (monitor_of b))
 
 -- a count as a number, or never
-abbrev pub counted : Count → Extent
-counted (Count.After i) = number i
-counted Count.Never = missing
+abbrev pub counted : Option ℕ → Extent
+counted (Some i) = number i
+counted None = missing
 
 -- 01's number and place of a refusal, or the values of a step
-abbrev pub stepped : Stepped → Answer (List ℕ)
-stepped (Stepped.To q r) = answered (q ∷ r ∷ [])
-stepped (Stepped.Refused r) = refusal r
+abbrev pub stepped : Result Step Refusal → Answer (List ℕ)
+stepped r = answer_by (λ s. s.state ∷ s.reading ∷ []) r
 
 -- the same of a trace
-abbrev pub traced : Traced → Answer TraceFigures
-traced (Traced.Reads r c) = answered (record { reading = r; count = counted c })
-traced (Traced.Refused r) = refusal r
+abbrev pub traced : Result Traced Refusal → Answer TraceFigures
+traced r = answer_by (λ t. record { reading = t.reading; count = counted t.count }) r

@@ -2,54 +2,31 @@
 use mathlib.Core.Path.{◌≡◌, refl, sym, ◌∙◌}
 use mathlib.Core.Bool.{Bool, true, false, not, ◌&&◌, ◌||◌, and-true}
 use mathlib.Core.List.{List}
-use mathlib.Core.Logic.{◌⊎◌, inl, inr, ⊎_elim}
+use mathlib.Core.Logic.{inl, inr, ⊎_elim}
 use Prim.Native.Nat.{ℕ, suc, ◌+◌, ◌-◌, ◌*◌, ◌/◌, ◌^◌, ◌≤◌, ◌<◌, zero-le}
 use native.Mathlib.Omega.{arith}
 use lib.Dec.{eqb, ltb}
 use lib.ListN.{length, get_or}
 use borrow.Author.Tests.{eq-eqb, eqb-true, eqb-false, lt-ltb, le-ltb, ltb-true}
-use Rattle.theory.specs.Below.{first}
 use Rattle.theory.specs.Automaton.{Automaton}
 use Rattle.theory.specs.Monitor.{state_limit, symbol_limit}
 use Rattle.theory.proofs.Below.{clash, not_clash, lt_or_le, or_cases, or_left, or_right, and_left, and_right, and_both}
 use Rattle.state_set.specs.Member.{is_part, set_at, Put}
+use Rattle.state_set.specs.Taking.{Taken}
 use Rattle.state_set.proofs.Words.{words_full}
 use Rattle.square.specs.Square.{never, entry}
-use Rattle.rows.specs.Sets.{Empty, Active}
+use Rattle.rows.specs.Sets.{Empty, Preceding, Active}
 use Rattle.rows.specs.Midway.{Ground, Front, Midway, GoesAt, set_done}
-use Rattle.rows.proofs.Visit.{lowest_in_lem, lowest_none, stays}
+use Rattle.rows.proofs.Visit.{stays}
 use Rattle.rows.proofs.Row.{kept_rows, retired_done}
-use Rattle.rows.proofs.Several.{Same, midway_less, goes_less, goes_nowhere, goes_then, lost, keep, taken}
-use Rattle.rounds.specs.Layers.{Room, Layer, symbol_done, block_done, part_done, state_done}
+use Rattle.rows.proofs.Several.{midway_less, goes_less, goes_nowhere, goes_then, lost, keep, taken}
+use Rattle.rounds.specs.Layers.{Layer, symbol_done, block_done, part_done, state_done}
 use Rattle.rounds.proofs.Layers.{layer_begins, layer_front, layer_next}
 
--- ---- room for a round
-
-pub room_same : {n k : ℕ} {sets square₀ alike₀ next₀ active₀ square alike next active : List ℕ} → Room n k square₀ alike₀ next₀ active₀ sets
-    → Same square₀ alike₀ next₀ square alike next → length active ≡ length active₀ → Room n k square alike next active sets
-room_same R S e = record {
-  small = R.small;
-  rows = rw S.square_same R.rows;
-  alike_sets = rw S.alike_same R.alike_sets;
-  next_sets = rw S.other_same R.next_sets;
-  active_sets = rw e R.active_sets;
-  predecessors_sets = R.predecessors_sets;
-  predecessors_in = R.predecessors_in;
-}
-
--- between two rounds there is room
-pub room_of : {g : Automaton} {ends : ℕ → ℕ → Bool} {r : ℕ} {sets square alike fresh next active : List ℕ} {rows : ℕ → Bool} → Ground g ends sets
-    → Layer g ends r square alike fresh rows → Empty g.states next → 4 ≤ length active → Room g.states g.symbols square alike next active sets
-room_of {g} G L N four = record {
-  small = G.small;
-  rows = L.kept.size;
-  alike_sets = L.kept.alike_size;
-  next_sets = N.size;
-  active_sets = four;
-  predecessors_sets = G.preceding.size;
-  predecessors_in = λ x a p lx la t.
-      ltb-true p g.states (and_left (ltb p g.states) (eqb (g.next p a) x) (sym (G.preceding.at x a p lx la) ∙ t));
-}
+-- a predecessor is a state
+pub predecessor_in : {g : Automaton} {sets : List ℕ} → Preceding g (λ p a. ltb p g.states) sets → (x a p : ℕ) → x < g.states → a < g.symbols
+    → set_at sets (x * symbol_limit + a) p ≡ true → p < g.states
+predecessor_in {g} P x a p lx la t = ltb-true p g.states (and_left (ltb p g.states) (eqb (g.next p a) x) (sym (P.at x a p lx la) ∙ t))
 
 -- at first every row is active
 pub active_first : {g : Automaton} {ends : ℕ → ℕ → Bool} {r : ℕ} {square alike fresh : List ℕ} {rows : ℕ → Bool} → Layer g ends r square alike fresh rows
@@ -119,35 +96,36 @@ module _ {g : Automaton} (x v w : ℕ) {r : ℕ} {front : ℕ → Bool} {sets sq
 
 -- ---- all parts
 
--- a state of n is in part 0 where n is at most 64, and else in one of the two
-in_part_lem : (n p : ℕ) → p < n → n ≤ 64 → is_part 0 p ≡ true
-in_part_lem n p l m = eq-eqb (p / 64) 0 (omega (arith, l, m))
+-- what is done in the parts below v, by the state whose part counts
+abbrev pub done_below : (ℕ → ℕ → ℕ) → (ℕ → ℕ → ℕ → Bool) → ℕ → ℕ → ℕ → ℕ → Bool
+done_below state all v p q b = ltb (state p q / 64) v && all p q b
 
-in_parts : (n p : ℕ) → p < n → n ≤ state_limit → (is_part 0 p ≡ true) ⊎ (is_part 1 p ≡ true)
-in_parts n p l m =
-    ⊎_elim
-    (λ (k : p < 64). inl (eq-eqb (p / 64) 0 (omega (arith, k))))
-    (λ (k : 64 ≤ p). inr (eq-eqb (p / 64) 1 (omega (arith, k, l, m))))
-    (lt_or_le p 64)
-
--- where each part of the states is done, by what a test says of it, all are done
+-- part by part, all is done
 module _ {g : Automaton} {r x : ℕ} {front : ℕ → Bool} {sets square₀ alike₀ next₀ active₀ : List ℕ} {rows₀ : ℕ → Bool}
-    (each : ℕ → ℕ → ℕ → ℕ → Bool) (all : ℕ → ℕ → ℕ → Bool) (state : ℕ → ℕ → ℕ)
-    (state_in : (p q : ℕ) → p < g.states → q < g.states → state p q < g.states)
-    (in_each : (v p q b : ℕ) → is_part v (state p q) ≡ true → all p q b ≡ true → each v p q b ≡ true) where
-  pub one_part : {square alike next active : List ℕ} {rows : ℕ → Bool} → g.states ≤ 64
-      → GoesAt g r x front (each 0) sets square₀ alike₀ next₀ active₀ rows₀ square alike next active rows
-      → GoesAt g r x front all sets square₀ alike₀ next₀ active₀ rows₀ square alike next active rows
-  one_part few step = goes_less all step (λ p q b lp lq lb t. in_each 0 p q b (in_part_lem g.states (state p q) (state_in p q lp lq) few) t)
+    (each : ℕ → ℕ → ℕ → ℕ → Bool) (all : ℕ → ℕ → ℕ → Bool) (state : ℕ → ℕ → ℕ) where
+  pub parts_begin : GoesAt g r x front (done_below state all 0) sets square₀ alike₀ next₀ active₀ rows₀ square₀ alike₀ next₀ active₀ rows₀
+  parts_begin = goes_nowhere (done_below state all 0)
+      (λ p q b lp t. clash (and_left (ltb (state p q / 64) 0) (all p q b) t) (le-ltb (state p q / 64) 0 zero-le))
 
-  pub two_parts : {square alike next active square' alike' next' active' : List ℕ} {rows rows' : ℕ → Bool} → g.states ≤ state_limit
-      → GoesAt g r x front (each 0) sets square₀ alike₀ next₀ active₀ rows₀ square alike next active rows
-      → GoesAt g r x front (each 1) sets square alike next active rows square' alike' next' active' rows'
-      → GoesAt g r x front all sets square₀ alike₀ next₀ active₀ rows₀ square' alike' next' active' rows'
-  two_parts few low high = goes_less all (goes_then low high) (λ p q b lp lq lb t. ⊎_elim
-      (λ e. or_left (each 0 p q b) (each 1 p q b) (in_each 0 p q b e t))
-      (λ e. or_right (each 0 p q b) (each 1 p q b) (in_each 1 p q b e t))
-      (in_parts g.states (state p q) (state_in p q lp lq) few))
+  pub parts_more : ((v p q b : ℕ) → is_part v (state p q) ≡ true → all p q b ≡ true → each v p q b ≡ true) → (v : ℕ)
+      → {square alike next active square' alike' next' active' : List ℕ} {rows rows' : ℕ → Bool}
+      → GoesAt g r x front (done_below state all v) sets square₀ alike₀ next₀ active₀ rows₀ square alike next active rows
+      → GoesAt g r x front (each v) sets square alike next active rows square' alike' next' active' rows'
+      → GoesAt g r x front (done_below state all (v + 1)) sets square₀ alike₀ next₀ active₀ rows₀ square' alike' next' active' rows'
+  parts_more in_each v before step = goes_less (done_below state all (v + 1)) (goes_then before step) (λ p q b lp lq lb t.
+      let z = state p q / 64 in
+      let l = ltb-true z (v + 1) (and_left (ltb z (v + 1)) (all p q b) t) in
+      let h = and_right (ltb z (v + 1)) (all p q b) t in
+      ⊎_elim
+      (λ (k : z < v). or_left (done_below state all v p q b) (each v p q b) (and_both (ltb z v) (all p q b) (lt-ltb z v k) h))
+      (λ k. or_right (done_below state all v p q b) (each v p q b) (in_each v p q b (eq-eqb z v (omega (arith, k, l))) h))
+      (lt_or_le z v))
+
+  pub parts_end : (v : ℕ) → ((p q : ℕ) → p < g.states → q < g.states → state p q / 64 < v) → {square alike next active : List ℕ} {rows : ℕ → Bool}
+      → GoesAt g r x front (done_below state all v) sets square₀ alike₀ next₀ active₀ rows₀ square alike next active rows
+      → GoesAt g r x front all sets square₀ alike₀ next₀ active₀ rows₀ square alike next active rows
+  parts_end v past before = goes_less all before
+      (λ p q b lp lq lb t. and_both (ltb (state p q / 64) v) (all p q b) (lt-ltb (state p q / 64) v (past p q lp lq)) t)
 
 -- the columns of a part, for rows of part v; and the rows of a part
 pub in_columns : (g : Automaton) (x k v w p q b : ℕ) → is_part w q ≡ true → part_done g x (is_part v) k p q b ≡ true
@@ -179,53 +157,61 @@ pub record Spreading (g : Automaton) (ends : ℕ → ℕ → Bool) (r : ℕ) (ro
 
 module _ {g : Automaton} {ends : ℕ → ℕ → Bool} {r : ℕ} {square₀ alike₀ fresh₀ : List ℕ} {rows : ℕ → Bool} {sets : List ℕ} (G : Ground g ends sets)
     (L : Layer g ends r square₀ alike₀ fresh₀ rows) where
-  pub spreading_begins : {next active : List ℕ} {found : ℕ → Bool} → r + 1 < never → Empty g.states next → Active g.states alike₀ active
-      → ((p : ℕ) → found p ≡ false) → Spreading g ends r rows rows fresh₀ fresh₀ square₀ alike₀ next active found
-  spreading_begins {next} {active} {found} fits N A none = record {
+  -- the rows that are below the number of states are all the rows
+  pub rows_below : (all left : ℕ → Bool) → ((q : ℕ) → all q ≡ ltb q g.states) → ((q : ℕ) → left q ≡ (rows q && all q)) → (q : ℕ) → left q ≡ rows q
+  rows_below all left ia il q = il q ∙ go (rows q) refl
+    where
+      go : (b : Bool) → rows q ≡ b → (b && all q) ≡ b
+      go true e = ia q ∙ lt-ltb q g.states (L.kept.rows_some q e).0
+      go false e = refl
+
+  pub spreading_begins : {left : ℕ → Bool} {next active : List ℕ} {found : ℕ → Bool} → ((q : ℕ) → left q ≡ rows q)
+      → r + 1 < never → Empty g.states next → Active g.states alike₀ active
+      → ((p : ℕ) → found p ≡ false) → Spreading g ends r rows left fresh₀ fresh₀ square₀ alike₀ next active found
+  spreading_begins {left} {next} {active} {found} il fits N A none = record {
     midway = record {
       active_rows = A;
       kept = kept_rows M.kept none;
       old = M.old;
       known = M.known;
       new = M.new;
-      covered = λ p q a lp lq la d. (let h = lost (rows (g.next p a)) (rows (g.next p a)) d in absurd (clash h.0 h.1));
+      covered = λ p q a lp lq la d. (let h = lost (rows (g.next p a)) (left (g.next p a)) d in absurd (clash h.0 (sym (il (g.next p a)) ∙ h.1)));
     };
     size = L.kept.fresh_size;
-    within = λ x t. t;
-    fresh_left = λ x q lx. at_first x q lx (rows x) refl;
+    within = λ x t. sym (il x) ∙ t;
+    fresh_left = λ x q lx. at_first x q lx (rows x) refl ∙ rw (← il x) refl;
   }
     where
-      at_first : (x q : ℕ) → x < g.states → (b : Bool) → rows x ≡ b → set_at fresh₀ x q ≡ (b && set_at fresh₀ x q)
-      at_first x q lx true e = refl
-      at_first x q lx false e = not_clash (λ t. clash (L.kept.rows_all x q lx t) e)
+      at_first : (x q : ℕ) → x < g.states → (b : Bool) → rows x ≡ b → set_at fresh₀ x q ≡ (rows x && set_at fresh₀ x q)
+      at_first x q lx true e = rw e refl
+      at_first x q lx false e = rw e (not_clash (λ t. clash (L.kept.rows_all x q lx t) e))
 
       M : Midway g ends r (λ p q a. false) square₀ alike₀ next active (λ p. false)
       M = layer_begins L fits N A
 
   module _ {left : ℕ → Bool} {fresh square alike next active : List ℕ} {found : ℕ → Bool}
-      (S : Spreading g ends r rows left fresh₀ fresh square alike next active found) {x : ℕ} (ex : x ≡ first left 0 state_limit) where
-    module _ (lx : x < state_limit) where
+      (S : Spreading g ends r rows left fresh₀ fresh square alike next active found) where
+    module _ {x : ℕ} {left' : ℕ → Bool} (T : Taken state_limit left x left') where
       row_in : x < g.states
-      row_in = (L.kept.rows_some x (S.within x (lowest_in_lem state_limit left ex lx))).0
+      row_in = (L.kept.rows_some x (S.within x T.lowest.found)).0
 
       -- what is read of the fresh states of x, those past the last state left out
       fronted : (all front : ℕ → Bool) → ((q : ℕ) → all q ≡ ltb q g.states) → ((q : ℕ) → front q ≡ (set_at fresh x q && all q))
           → (y : ℕ) → front y ≡ set_at fresh₀ x y
       fronted all front ia is y =
-          let e : set_at fresh x y ≡ set_at fresh₀ x y = S.fresh_left x y row_in ∙ rw (lowest_in_lem state_limit left ex lx) in
+          let e : set_at fresh x y ≡ set_at fresh₀ x y = S.fresh_left x y row_in ∙ rw T.lowest.found in
           is y ∙ rw (e, ia y) (⊎_elim
           (λ (l : y < g.states). rw (lt-ltb y g.states l) (and-true (set_at fresh₀ x y)))
           (λ l. rw (le-ltb y g.states l, L.kept.fresh_is x y row_in, le-ltb y g.states l))
           (lt_or_le y g.states))
 
-      pub spreading_more : (all : ℕ → Bool) {k : ℕ} {front left' none : ℕ → Bool} {fresh' square' alike' next' active' : List ℕ} {found' : ℕ → Bool} →
+      pub spreading_more : (all : ℕ → Bool) {k : ℕ} {front none : ℕ → Bool} {fresh' square' alike' next' active' : List ℕ} {found' : ℕ → Bool} →
           g.symbols ≡ k
           → ((q : ℕ) → all q ≡ ltb q g.states) → ((q : ℕ) → front q ≡ (set_at fresh x q && all q))
           → ((q : ℕ) → none q ≡ false) → Put fresh x none fresh'
           → GoesAt g r x front (state_done g x k) sets square alike next active found square' alike' next' active' found'
-          → ((q : ℕ) → left' q ≡ (left q && not (eqb q x && ltb x state_limit)))
           → Spreading g ends r rows left' fresh₀ fresh' square' alike' next' active' found'
-      spreading_more all {k} {front} {left'} {none} {fresh'} ek ia is bare P step out = record {
+      spreading_more all {k} {front} {none} {fresh'} ek ia is bare P step = record {
         midway = midway_less (step.goes ends (λ p q a. rows (g.next p a) && not (left (g.next p a))) G
             (front_same (layer_front L x row_in) (fronted all front ia is)) S.midway)
             (λ p q a lp lq la t.
@@ -234,25 +220,25 @@ module _ {g : Automaton} {ends : ℕ → ℕ → Bool} {r : ℕ} {square₀ alik
             (λ w. or_left (rows (g.next p a) && not (left (g.next p a))) (state_done g x k p q a) (keep h.0 w))
             (λ w. or_right (rows (g.next p a) && not (left (g.next p a))) (state_done g x k p q a)
             (and_both (eqb (g.next p a) x) (ltb a k) (eq-eqb (g.next p a) x w) (lt-ltb a k (omega (arith, la, ek)))))
-            (taken left left' (λ q. out q ∙ rw (lt-ltb x state_limit lx, and-true (eqb q x))) (g.next p a) h.1));
+            (taken left left' T.others (g.next p a) h.1));
         size = rw P.size S.size;
-        within = λ z t. S.within z (stays left left' (λ q. eqb q x && ltb x state_limit) out z t);
+        within = λ z t. S.within z (stays left left' (λ q. eqb q x) T.others z t);
         fresh_left = λ z q lz. by z q lz (eqb z x) refl;
       }
         where
           by : (z q : ℕ) → z < g.states → (b : Bool) → eqb z x ≡ b → set_at fresh' z q ≡ (left' z && set_at fresh₀ z q)
           by z q lz true h =
               let e = eqb-true z x h in
-              rw e (P.here q ∙ bare q ∙ rw (out x, eq-eqb x x refl, lt-ltb x state_limit lx, lowest_in_lem state_limit left ex lx))
-          by z q lz false h = P.elsewhere z q (eqb-false z x h) ∙ S.fresh_left z q lz ∙ rw (out z, h) (go (left z))
+              rw e (P.here q ∙ bare q ∙ rw (T.others x, eq-eqb x x refl, T.lowest.found))
+          by z q lz false h = P.elsewhere z q (eqb-false z x h) ∙ S.fresh_left z q lz ∙ rw (T.others z, h) (go (left z))
             where
               go : (b : Bool) → (b && set_at fresh₀ z q) ≡ ((b && true) && set_at fresh₀ z q)
               go true = refl
               go false = refl
 
-    pub spreading_ends : g.states ≤ x → Layer g ends (suc r) square alike next found × Empty g.states fresh × Active g.states alike active
-    spreading_ends l = (
-      layer_next L G.closed S.midway (λ p q a lp lq la t. keep t (lowest_none state_limit left ex l (g.next p a) (G.closed.next_in p a lp la))),
-      record { size = S.size; none = λ z q lz. S.fresh_left z q lz ∙ rw (lowest_none state_limit left ex l z lz) },
+    pub spreading_ends : ((q : ℕ) → left q ≡ false) → Layer g ends (suc r) square alike next found × Empty g.states fresh × Active g.states alike active
+    spreading_ends none = (
+      layer_next L G.closed S.midway (λ p q a lp lq la t. keep t (none (g.next p a))),
+      record { size = S.size; none = λ z q lz. S.fresh_left z q lz ∙ rw (none z) },
       S.midway.active_rows,
     )

@@ -1,127 +1,76 @@
 -- Sets gathered state by state: predecessors, and what leads into a set; entries of a row made one by one.
-use mathlib.Core.Path.{◌≡◌, refl, sym, ap, ◌∙◌}
-use mathlib.Core.Bool.{Bool, true, false, cond, not, ◌&&◌, ◌||◌, and-false, or-false}
-use mathlib.Core.List.{List}
-use mathlib.Core.Logic.{⊎_elim}
-use Prim.Native.Nat.{ℕ, ◌+◌, ◌*◌, ◌/◌, ◌≤◌, ◌<◌, zero-le}
-use native.Mathlib.Nat.{le_refl}
+use mathlib.Core.Path.{◌≡◌, refl, sym, ◌∙◌}
+use mathlib.Core.Bool.{Bool, true, false, cond, not, ◌&&◌, ◌||◌, and-false}
+use mathlib.Core.List.{List, ◌++◌}
+use Prim.Native.Nat.{ℕ, ◌+◌, ◌*◌, ◌≤◌, ◌<◌}
 use native.Mathlib.Omega.{arith}
 use lib.Dec.{eqb, ltb}
-use lib.ListN.{length, set, length-set}
+use lib.ListN.{length, get_or, set, replicate, length-set, length-append, length-replicate, get_or-append, get_or-replicate}
 use lib.Seq.{get_or-set_same, get_or-set_other}
-use borrow.Author.Tests.{eq-eqb, ne_eqb, eqb-true, eqb-false, lt-ltb, le-ltb}
-use Rattle.theory.specs.Automaton.{Automaton, Closed}
+use borrow.Author.Tests.{eq-eqb, eqb-true, eqb-false}
+use Rattle.theory.specs.Automaton.{Automaton}
 use Rattle.theory.specs.Monitor.{state_limit, symbol_limit}
-use Rattle.theory.proofs.Below.{clash, lt_or_le}
-use Rattle.state_set.specs.Member.{is_part, set_at, Put}
-use Rattle.state_set.proofs.Words.{words_none}
+use Rattle.theory.specs.Below.{any}
+use Rattle.theory.proofs.Below.{clash, both_ways, any_at, any_find}
+use Rattle.state_set.specs.Member.{set_at}
+use Rattle.state_set.specs.Placing.{Placed}
+use Rattle.state_set.proofs.Words.{words_none, set_none}
 use Rattle.square.specs.Square.{place, HasRows, entry}
-use Rattle.square.proofs.Filled.{Filled}
-use Rattle.rows.specs.Sets.{Empty, Preceding, up_to, leading, Into, Entered}
+use Rattle.rows.specs.declared.search.Fresh.{Fresh}
+use Rattle.rows.specs.Searching.{Bare}
+use Rattle.rows.specs.Sets.{Empty, Preceding, leading, Into, Entered}
 
 -- ---- predecessors
 
 -- sets whose words are 0 are empty
-pub empty_filled : (n : ℕ) {sets : List ℕ} → n * 2 ≤ length sets → Filled 0 (n * 2) sets → Empty n sets
-empty_filled n room F = record {
-  size = room;
-  none = λ p q l. rw (F.at (p * 2) (omega (arith, l)), F.at (p * 2 + 1) (omega (arith, l)), words_none q) (and-false (ltb q state_limit));
+pub empty_filled : (n m : ℕ) (rest : List ℕ) {zeros : List ℕ} → m ≡ n * 2 → zeros ≡ replicate m 0 → Empty n (zeros ++ rest)
+empty_filled n m rest e z = rw z (record {
+  size = rw (length-append (replicate {A = ℕ} m 0) rest, size, e) (omega arith);
+  none = λ p q l. rw (at (p * 2) (omega (arith, l)), at (p * 2 + 1) (omega (arith, l)), words_none q) (and-false (ltb q state_limit));
+})
+  where
+    size : length (replicate {A = ℕ} m 0) ≡ m
+    size = length-replicate {A = ℕ} m 0
+
+    at : (i : ℕ) → i < n * 2 → get_or (replicate {A = ℕ} m 0 ++ rest) i 0 ≡ 0
+    at i l = get_or-append (replicate {A = ℕ} m 0) rest 0 i (rw size (omega (arith, l, e))) ∙ get_or-replicate {A = ℕ} m i 0 0 (omega (arith, l, e))
+
+-- and so are those of an array as it is made
+pub empty_sets : (n size : ℕ) → n * 2 ≤ size → Empty n (replicate size 0)
+empty_sets n size room = record {
+  size = rw (length-replicate {A = ℕ} size 0) room;
+  none = λ p q l. set_none size p q (omega (arith, l, room));
 }
 
-module _ {g : Automaton} where
-  pub preceding_none : {sets : List ℕ} → Empty (g.states * symbol_limit) sets → g.symbols ≤ symbol_limit → Preceding g (up_to 0 0) sets
-  preceding_none E few = record {
-    size = E.size;
-    at = λ x a p lx la. E.none (x * symbol_limit + a) p (omega (arith, lx, la, few))
-        ∙ rw (le-ltb p 0 zero-le, le-ltb a 0 zero-le) (nothing (eqb p 0) (eqb (g.next p a) x));
-  }
-    where
-      nothing : (b c : Bool) → false ≡ ((b && false) && c)
-      nothing true c = refl
-      nothing false c = refl
+-- of fewer states none is fresh either
+pub bare_fewer : {n m : ℕ} {fresh : Fresh} → n ≤ m → Bare m fresh → Bare n fresh
+bare_fewer l B = record {
+  sets = record { size = (let s = B.sets.size in omega (arith, s, l)); none = λ p q lp. B.sets.none p q (omega (arith, lp, l)) };
+  rows = B.rows;
+}
 
-  -- all symbols of p are entered
-  pub preceding_row : (p : ℕ) {sets : List ℕ} → Preceding g (up_to p g.symbols) sets → Preceding g (up_to (p + 1) 0) sets
-  preceding_row p P = record { size = P.size; at = λ x a q lx la. P.at x a q lx la ∙ ap (λ (b : Bool). b && eqb (g.next q a) x) (same a q la) }
-    where
-      same : (a q : ℕ) → a < g.symbols → up_to p g.symbols q a ≡ up_to (p + 1) 0 q a
-      same a q la =
-          rw (lt-ltb a g.symbols la, le-ltb a 0 zero-le, and-false (eqb q (p + 1)))
-          (⊎_elim
-          (λ (b : q < p). rw (lt-ltb q p b, lt-ltb q (p + 1) (omega arith)))
-          (λ b. ⊎_elim
-          (λ (c : p < q). rw (le-ltb q p b, le-ltb q (p + 1) (omega arith), ne_eqb q p (λ e. omega arith)))
-          (λ c. (let e : q ≡ p = omega arith in rw e (rw (le-ltb p p (le_refl p), lt-ltb p (p + 1) (omega arith), eq-eqb p p refl))))
-          (lt_or_le p q))
-          (lt_or_le q p))
-
-  pub preceding_all : (n : ℕ) {sets : List ℕ} → Preceding g (up_to n 0) sets → Preceding g (λ p a. ltb p n) sets
-  preceding_all n P = record { size = P.size; at = λ x a q lx la. P.at x a q lx la ∙ rw (le-ltb a 0 zero-le, go (ltb q n) (eqb q n)) }
-    where
-      go : (b c : Bool) → (b || (c && false)) ≡ b
-      go true c = refl
-      go false true = refl
-      go false false = refl
-
-  -- p is entered among the predecessors of x under a
-  pub preceding_more : {p a x : ℕ} {sets after : List ℕ} → g.symbols ≤ symbol_limit → x < g.states → a < g.symbols → p < state_limit → x ≡ g.next p a
-      → Preceding g (up_to p a) sets
-      → Put sets (x * symbol_limit + a) (λ q. set_at sets (x * symbol_limit + a) q || (eqb q p && ltb p state_limit)) after
-      → Preceding g (up_to p (a + 1)) after
-  preceding_more {p} {a} {x} {sets} {after} few lx la lp ex P S = record { size = rw S.size P.size; at = at }
-    where
-      -- at another place nothing changes
-      other : (y b q : ℕ) → b < g.symbols → ((q ≡ p) → (b ≡ a) → g.next q b ≡ y → ⊥)
-          → (up_to p a q b && eqb (g.next q b) y) ≡ (up_to p (a + 1) q b && eqb (g.next q b) y)
-      other y b q lb ne = by_row (eqb q p) refl
-        where
-          by_end : q ≡ p → (c : Bool) → eqb (g.next q b) y ≡ c → b ≡ a → (up_to p a q b && eqb (g.next q b) y) ≡ (up_to p (a + 1) q b && eqb (g.next q b) y)
-          by_end eq true h eb = absurd (ne eq eb (eqb-true (g.next q b) y h))
-          by_end eq false h eb = rw h (and-false (up_to p a q b) ∙ sym (and-false (up_to p (a + 1) q b)))
-
-          by_row : (c : Bool) → eqb q p ≡ c → (up_to p a q b && eqb (g.next q b) y) ≡ (up_to p (a + 1) q b && eqb (g.next q b) y)
-          by_row false h = rw h
-          by_row true h =
-              ⊎_elim
-              (λ (l : b < a). rw (lt-ltb b a l, lt-ltb b (a + 1) (omega arith)))
-              (λ l. ⊎_elim
-              (λ (m : a < b). rw (le-ltb b a l, le-ltb b (a + 1) (omega arith)))
-              (λ m. by_end (eqb-true q p h) (eqb (g.next q b) y) refl (omega arith))
-              (lt_or_le a b))
-              (lt_or_le b a)
-
-      at : (y b q : ℕ) → y < g.states → b < g.symbols → set_at after (y * symbol_limit + b) q ≡ (up_to p (a + 1) q b && eqb (g.next q b) y)
-      at y b q ly lb = by_place (eqb (y * symbol_limit + b) (x * symbol_limit + a)) refl
-        where
-          here : y ≡ x → b ≡ a → set_at after (y * symbol_limit + b) q ≡ (up_to p (a + 1) q b && eqb (g.next q b) y)
-          here ey eb = rw (ey, eb) (S.here q ∙ rw (P.at x a q lx la, lt-ltb p state_limit lp) (by_state (eqb q p) refl))
-            where
-              same : (c d : Bool) → (((c || (false && d)) && eqb (g.next q a) x) || (false && true)) ≡ ((c || (false && ltb a (a + 1))) && eqb (g.next q a) x)
-              same true d = or-false (eqb (g.next q a) x)
-              same false d = refl
-
-              by_state : (c : Bool) → eqb q p ≡ c
-                  → ((up_to p a q a && eqb (g.next q a) x) || (eqb q p && true)) ≡ (up_to p (a + 1) q a && eqb (g.next q a) x)
-              by_state false h = rw h (same (ltb q p) (ltb a a))
-              by_state true h =
-                  let e = eqb-true q p h in
-                  rw (h, lt-ltb a (a + 1) (omega arith), eq-eqb (g.next q a) x (rw e (sym ex)))
-                  (go (ltb q p) (ltb a a))
-                where
-                  go : (c d : Bool) → (((c || (true && d)) && true) || (true && true)) ≡ ((c || (true && true)) && true)
-                  go true d = refl
-                  go false true = refl
-                  go false false = refl
-
-          by_place : (c : Bool) → eqb (y * symbol_limit + b) (x * symbol_limit + a) ≡ c
-              → set_at after (y * symbol_limit + b) q ≡ (up_to p (a + 1) q b && eqb (g.next q b) y)
-          by_place true h =
-              let e = eqb-true (y * symbol_limit + b) (x * symbol_limit + a) h in
-              here (omega (arith, e, la, lb, few)) (omega (arith, e, la, lb, few))
-          by_place false h =
-              let ne = eqb-false (y * symbol_limit + b) (x * symbol_limit + a) h in
-              S.elsewhere (y * symbol_limit + b) q ne ∙ P.at y b q ly lb
-              ∙ other y b q lb (λ eq eb en. (let z : y ≡ x = sym en ∙ rw (eq, eb) (sym ex) in ne (rw (z, eb))))
+-- for each state and symbol the set has the states that were put there
+pub preceding_placed : {g : Automaton} {before after : List ℕ} → g.symbols ≤ symbol_limit → Empty (g.states * symbol_limit) before
+    → Placed (λ p a. g.next p a * symbol_limit + a) g.symbols (λ p. ltb p g.states) before after → Preceding g (λ p a. ltb p g.states) after
+preceding_placed {g} few E P = record {
+  size = rw P.size E.size;
+  at = λ x a p lx la. P.at (x * symbol_limit + a) p
+      ∙ rw (E.none (x * symbol_limit + a) p (omega (arith, lx, la, few)), one p x a la);
+}
+  where
+    -- of the sets that p was put into, one is of symbol a
+    one : (p x a : ℕ) → a < g.symbols → any g.symbols (λ b. eqb (x * symbol_limit + a) (g.next p b * symbol_limit + b)) ≡ eqb (g.next p a) x
+    one p x a la = both_ways
+        (λ t.
+        let b = any_find g.symbols (λ b. eqb (x * symbol_limit + a) (g.next p b * symbol_limit + b)) t in
+        let e = eqb-true (x * symbol_limit + a) (g.next p b.0 * symbol_limit + b.0) b.2 in
+        let lb = b.1 in
+        let ea : b.0 ≡ a = omega (arith, e, la, lb, few) in
+        eq-eqb (g.next p a) x (let ex : x ≡ g.next p b.0 = omega (arith, e, la, lb, few) in rw (ex, ea) refl))
+        (λ t.
+        let e = eqb-true (g.next p a) x t in
+        any_at g.symbols (λ b. eqb (x * symbol_limit + a) (g.next p b * symbol_limit + b)) a la
+        (eq-eqb (x * symbol_limit + a) (g.next p a * symbol_limit + a) (rw e refl)))
 
 -- ---- what leads into a set
 
@@ -161,41 +110,6 @@ module _ {g : Automaton} {a : ℕ} {part whole into left : ℕ → Bool} (G : Ga
       last false true true = refl
       last false true false = refl
       last false false l = refl
-
--- two words, one after the other
-pub into_both : {g : Automaton} {a : ℕ} {part set low high some more into : ℕ → Bool} → Closed g → a < g.symbols → g.states ≤ state_limit
-    → ((q : ℕ) → low q ≡ (is_part 0 q && set q)) → ((q : ℕ) → high q ≡ (is_part 1 q && set q)) → ((q : ℕ) → into q ≡ (some q || more q))
-    → Into g a part low some → Into g a part high more → Into g a part set into
-into_both {g} {a} {part} {set} closed la few L H is A B = record {
-  at = λ q.
-      is q ∙ rw (A.at q, B.at q, L (g.next q a), H (g.next q a))
-      (⊎_elim
-      (λ (lq : q < g.states). rw (lt-ltb q g.states lq) (either q (closed.next_in q a lq la)))
-      (λ out. rw (le-ltb q g.states out) (none (part q)))
-      (lt_or_le q g.states));
-}
-  where
-    none : (c : Bool) → ((c && false) || (c && false)) ≡ (c && false)
-    none true = refl
-    none false = refl
-
-    one : (c b : Bool) → ((c && b) || (c && false)) ≡ (c && b)
-    one true b = or-false b
-    one false b = refl
-
-    other : (c b : Bool) → ((c && false) || (c && b)) ≡ (c && b)
-    other true b = refl
-    other false b = refl
-
-    either : (q : ℕ) → g.next q a < g.states
-        → ((part q && (is_part 0 (g.next q a) && set (g.next q a))) || (part q && (is_part 1 (g.next q a) && set (g.next q a)))) ≡
-        (part q && set (g.next q a))
-    either q l =
-        let z = g.next q a in
-        ⊎_elim
-        (λ (b : z < 64). rw (eq-eqb (z / 64) 0 (omega (arith, b)), ne_eqb (z / 64) 1 (λ e. omega (arith, b, e))) (one (part q) (set z)))
-        (λ (b : 64 ≤ z). rw (ne_eqb (z / 64) 0 (λ e. omega (arith, b, e)), eq-eqb (z / 64) 1 (omega (arith, b, l, few))) (other (part q) (set z)))
-        (lt_or_le z 64)
 
 -- ---- the entries of a row
 

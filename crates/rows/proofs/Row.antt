@@ -319,6 +319,15 @@ put_part {before} {after} {p} {w} f h P inside outside = record { size = P.size;
     go q true e = inside q e
     go q false e = outside q e
 
+-- of fewer states the entries became the same
+entered_fewer : {n m : ℕ} {before : List ℕ} {p : ℕ} {test : ℕ → Bool} {d : ℕ} {after : List ℕ} → n ≤ m → Entered m before p test d after
+    → Entered n before p test d after
+entered_fewer l E = record {
+  size = E.size;
+  here = λ q lq. E.here q (omega (arith, lq, l));
+  elsewhere = λ x q lx lq. E.elsewhere x q (omega (arith, lx, l)) (omega (arith, lq, l));
+}
+
 -- what is new, by a word of part w: the states alike to p that lead into the front, in the columns of that part and in no others
 new_is : {g : Automaton} {a : ℕ} {part front into : ℕ → Bool} → Into g a part front into → (alike new here : ℕ → Bool)
     → ((q : ℕ) → here q ≡ (part q && alike q)) → ((q : ℕ) → new q ≡ (here q && into q)) → (q : ℕ) → new q ≡ (alike q && into q)
@@ -345,7 +354,7 @@ module _ (w : ℕ) {g : Automaton} (p a r : ℕ) (fits : r + 1 < never) (lp : p 
     }
 
     pub row_new : {square' alike' next' active' : List ℕ} {left more old rows' : ℕ → Bool} {word : ℕ} → (q : ℕ) × (new q ≡ true)
-        → Entered g.states square p new (r + 1) square'
+        → Entered state_limit square p new (r + 1) square'
         → PutPart alike p w left alike' → ((q : ℕ) → left q ≡ (here q && not (new q)))
         → PutPart next p w more next' → ((q : ℕ) → more q ≡ (old q || new q)) → ((q : ℕ) → old q ≡ (is_part w q && set_at next p q))
         → Retired p w word active active' → (word ≡ 0 → (q : ℕ) → left q ≡ false)
@@ -353,7 +362,7 @@ module _ (w : ℕ) {g : Automaton} (p a r : ℕ) (fits : r + 1 < never) (lp : p 
         → GoesAt g r (g.next p a) front (row_done (is_part w) p a) sets square alike next active rows square' alike' next' active' rows'
     row_new {left = left} {more} {word = word} some E A ea X ex eo S none R = record {
       goes = λ ends done G F M.
-          spread_new G fits lp la F M (I G.closed G.preceding) (new_is (I G.closed G.preceding) (set_at alike p) new here H N) E
+          spread_new G fits lp la F M (I G.closed G.preceding) (new_is (I G.closed G.preceding) (set_at alike p) new here H N) (entered_fewer G.small E)
           (put_part left (λ q. set_at alike p q && not (new q)) A (λ q e. ea q ∙ rw (H q, e))
           (λ q e. rw (new_outside (is_part w) (set_at alike p) new here into H N q e) (sym (and-true (set_at alike p q)))))
           (put_part more (λ q. set_at next p q || new q) X (λ q e. ex q ∙ rw (eo q, e))

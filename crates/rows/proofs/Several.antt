@@ -5,27 +5,12 @@ use mathlib.Core.List.{List}
 use mathlib.Core.Logic.{◌⊎◌, inl, inr, ⊎_elim}
 use Prim.Native.Nat.{ℕ, ◌+◌, ◌*◌, ◌<◌}
 use lib.Dec.{eqb, ltb}
-use lib.ListN.{length}
 use borrow.Author.Tests.{eq-eqb, eqb-true, not-true}
 use Rattle.theory.specs.Automaton.{Automaton}
 use Rattle.theory.specs.Monitor.{symbol_limit}
 use Rattle.theory.proofs.Below.{clash, or_cases, or_left, or_right, and_left, and_right, and_both}
 use Rattle.state_set.specs.Member.{set_at}
 use Rattle.rows.specs.Midway.{Midway, GoesAt, row_done, set_done}
-
--- ---- the arrays of a round keep their lengths
-
-pub record Same (square₀ alike₀ other₀ square alike other : List ℕ) : Type 0 where
-  pub square_same : length square ≡ length square₀
-  pub alike_same : length alike ≡ length alike₀
-  pub other_same : length other ≡ length other₀
-
-pub same_first : {square alike other : List ℕ} → Same square alike other square alike other
-same_first = record { square_same = refl; alike_same = refl; other_same = refl }
-
-pub same_then : {square₀ alike₀ other₀ square alike other square' alike' other' : List ℕ} → Same square₀ alike₀ other₀ square alike other
-    → length square' ≡ length square → length alike' ≡ length alike → length other' ≡ length other → Same square₀ alike₀ other₀ square' alike' other'
-same_then S es ea eo = record { square_same = es ∙ S.square_same; alike_same = ea ∙ S.alike_same; other_same = eo ∙ S.other_same }
 
 -- ---- steps of a round, one after the other
 

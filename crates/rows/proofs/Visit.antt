@@ -8,7 +8,7 @@ use native.Mathlib.Omega.{arith}
 use lib.Dec.{eqb, ltb}
 use borrow.Author.Tests.{eq-eqb, ne_eqb, eqb-true, eqb-false, lt-ltb, le-ltb}
 use Rattle.theory.specs.Below.{first, count}
-use Rattle.state_set.specs.Member.{in_part, lowest_in}
+use Rattle.state_set.specs.Member.{in_part}
 use Rattle.state_set.proofs.Words.{part_none}
 use Rattle.theory.proofs.Below.{and_left, first_le, first_here, first_below, lt_or_le, count_more}
 
@@ -29,10 +29,6 @@ module _ (limit : ℕ) where
   pub fewer : (f h out : ℕ → Bool) {y : ℕ} → y < limit → f y ≡ true → out y ≡ true → ((q : ℕ) → h q ≡ (f q && not (out q))) → count limit h < count limit f
   fewer f h out {y} l t o is = count_more limit h f (λ q lq. stays f h out is q) y l (is y ∙ rw (t, o)) t
 
-  pub lowest_less : (f h : ℕ → Bool) {y : ℕ} → y ≡ first f 0 limit → y < limit → ((q : ℕ) → h q ≡ (f q && not (eqb q y && ltb y limit)))
-      → count limit h < count limit f
-  lowest_less f h {y} e l is = fewer f h (λ q. eqb q y && ltb y limit) l (lowest_in_lem f e l) (rw (eq-eqb y y refl, lt-ltb y limit l)) is
-
   module _ (f : ℕ → Bool) {b : Bool} (e : b ≡ eqb (first f 0 limit) limit) where
     -- the test for an empty set
     pub empty_none : b ≡ true → (q : ℕ) → q < limit → f q ≡ false
@@ -50,11 +46,6 @@ module _ (limit : ℕ) where
 -- an empty word has none
 pub word_none : (w : ℕ) {word : ℕ} → word ≡ 0 → (q : ℕ) → in_part w word q ≡ false
 word_none w e q = rw e (part_none w q)
-
--- what is left without the lowest
-pub word_rest : (w word rest y : ℕ) → y ≡ lowest_in w word → ((q : ℕ) → in_part w rest q ≡ (in_part w word q && not (eqb q (lowest_in w word))))
-    → (q : ℕ) → in_part w rest q ≡ (in_part w word q && not (eqb q y))
-word_rest w word rest y e is q = rw e (is q)
 
 -- ---- the states below a number
 

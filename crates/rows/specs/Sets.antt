@@ -1,6 +1,7 @@
 -- The rows of the square and the sets of states beside them: predecessors, entries of a row, which states are alike and
 -- which are fresh.
-use Rattle.std.specs.Prelude.{◌≡◌, Bool, true, false, cond, not, ◌&&◌, ◌||◌, List, ◌⊎◌, ℕ, ◌+◌, ◌*◌, ◌/◌, ◌≤◌, ◌<◌, eqb, ltb, length}
+use Rattle.std.specs.Prelude.{◌≡◌, Bool, true, false, cond, not, ◌&&◌, List, ◌⊎◌, ℕ, ◌+◌, ◌*◌, ◌/◌, ◌≤◌, ◌<◌, eqb}
+use Rattle.std.specs.Prelude.{ltb, length}
 use Rattle.theory.specs.Automaton.{Automaton}
 use Rattle.theory.specs.Monitor.{symbol_limit}
 use Rattle.state_set.specs.Member.{set_at}
@@ -24,10 +25,6 @@ pub record Preceding (g : Automaton) (entered : ℕ → ℕ → Bool) (sets : Li
   pub size : g.states * symbol_limit * 2 ≤ length sets
   pub at : (x a p : ℕ) → x < g.states → a < g.symbols
       → set_at sets (x * symbol_limit + a) p ≡ (entered p a && eqb (g.next p a) x)
-
--- all states below p were entered, and of p the symbols below a
-abbrev pub up_to : ℕ → ℕ → ℕ → ℕ → Bool
-up_to p a q b = ltb q p || (eqb q p && ltb b a)
 
 -- the states from which a leads to a state of the set
 abbrev pub leading : Automaton → ℕ → (ℕ → Bool) → ℕ → Bool

@@ -3,97 +3,113 @@
 
 mod words;
 
-use classes::Classification;
-use faults::{FaultSet, KINDS, Kind};
-use immunity::Finding;
-use output::Output;
+use classes::Classified;
+use faults::{FaultSet, Kind};
+use std::io;
+use std::io::Write;
 use theory::STATE_LIMIT;
 use witness::WITNESS_ROOM;
+use words::{Belief, Counted, Refused};
 
 // The finding under one fault and one reading. The area is lent for a witness.
-fn finding(out: Output, body: &[u8], set: usize, domain: usize, area: &mut [u8]) -> Output {
+fn finding(
+    out: &mut impl Write,
+    body: &[u8],
+    set: usize,
+    domain: usize,
+    area: &mut [u8],
+) -> io::Result<()> {
     let answer = immunity::examine(body, set, domain, area);
-    let Finding::Vulnerable(witness) = answer else {
-        return words::no_witness(out, answer);
+    if let Err(refusal) = answer {
+        return writeln!(out, "{}", Refused(refusal));
+    }
+    let Ok(Some(witness)) = answer else {
+        return writeln!(out, "immune");
     };
-    drawing::traces::draw(
+    let sent = basics::part(area, 0, witness.distance);
+    drawing::traces::draw(out, sent, witness, domain)
+}
+
+// The line that says which marks can be believed when they are received under one fault.
+fn believe_line(out: &mut impl Write, body: &[u8], set: usize, area: &mut [u8]) -> io::Result<()> {
+    write!(
         out,
-        basics::part(area, 0, witness.distance),
-        witness,
-        domain,
+        "    believe:      true {}",
+        Belief(trust::believe(body, set, 3, 1, area))
+    )?;
+    write!(
+        out,
+        ", false {}",
+        Belief(trust::believe(body, set, 3, 2, area))
+    )?;
+    writeln!(
+        out,
+        ", not yet {}",
+        Belief(trust::believe(body, set, 3, 0, area))
     )
 }
 
-// Whether a mark can be believed when it is received under one fault.
-fn believed(out: Output, body: &[u8], set: usize, mark: usize, area: &mut [u8]) -> Output {
-    words::belief(out, trust::believe(body, set, 3, mark, area))
-}
-
-// The line with all three marks.
-fn believe_line(out: Output, body: &[u8], set: usize, area: &mut [u8]) -> Output {
-    let found = believed(out.text(b"    believe:      true "), body, set, 1, area);
-    let refuted = believed(found.text(b", false "), body, set, 2, area);
-    believed(refuted.text(b", not yet "), body, set, 0, area).text(b"\n")
-}
-
 // What is shown of one fault: the finding and, by marks, which of them can be believed. Both use one area.
-fn fault(out: Output, body: &[u8], kind: Kind, domain: usize) -> Output {
+fn fault(out: &mut impl Write, body: &[u8], kind: Kind, domain: usize) -> io::Result<()> {
     let mut area = [0u8; WITNESS_ROOM];
     let set = FaultSet::empty().with(kind).number();
-    let found = finding(words::fault_name(out, kind), body, set, domain, &mut area);
+    write!(out, "  ")?;
+    output::padded(out, words::fault_name(kind), 16)?;
+    finding(out, body, set, domain, &mut area)?;
     if domain == 3 {
-        return believe_line(found, body, set, &mut area);
+        believe_line(out, body, set, &mut area)?;
     }
-    found
+    Ok(())
 }
 
 // Each fault alone, in the written order.
-fn faults_by(out: Output, body: &[u8], domain: usize) -> Output {
-    let mut after = out;
-    let mut rank = 0;
-    while rank < KINDS {
-        after = fault(after, body, faults::kind_at(rank), domain);
-        rank += 1;
+fn faults_by(out: &mut impl Write, body: &[u8], domain: usize) -> io::Result<()> {
+    for kind in Kind::ALL {
+        fault(out, body, kind, domain)?;
     }
-    after
-}
-
-// How many of the states are reached.
-fn count_reached(out: Output, states: usize, reached: usize) -> Output {
-    if reached == states {
-        return out.text(b"all");
-    }
-    out.number(reached)
+    Ok(())
 }
 
 // The states, those reached, and the messages.
-fn sizes(out: Output, body: &[u8], reached: usize) -> Output {
+fn sizes(out: &mut impl Write, body: &[u8], reached: usize) -> io::Result<()> {
     let states = basics::byte_at(body, 0);
-    let counted = words::counted(out.text(b"  "), states, b" state").text(b", ");
-    let begun = count_reached(counted, states, reached)
-        .text(b" reached from start ")
-        .number(basics::byte_at(body, 2))
-        .text(b", ");
-    words::counted(begun, basics::byte_at(body, 1), b" message").text(b"\n")
+    write!(out, "  {}, ", Counted(states, "state"))?;
+    if reached == states {
+        write!(out, "all")?;
+    } else {
+        write!(out, "{reached}")?;
+    }
+    write!(out, " reached from start {}, ", basics::byte_at(body, 2))?;
+    writeln!(out, "{}", Counted(basics::byte_at(body, 1), "message"))
+}
+
+// What is shown of a table that is classified so.
+fn table(
+    out: &mut impl Write,
+    body: &[u8],
+    classified: Classified,
+    classes: &[u8],
+) -> io::Result<()> {
+    let monitorability = classified.monitorability;
+    writeln!(out, "{monitorability} ({})", words::meaning(monitorability))?;
+    sizes(out, body, classified.reached)?;
+    drawing::states::class_lines(out, classes)?;
+    drawing::settled::line(out, monitor::drawn_marks(body), classes)?;
+    writeln!(out, "by marks")?;
+    faults_by(out, body, 3)?;
+    writeln!(out, "by classes")?;
+    faults_by(out, body, 6)
 }
 
 // The card of a rule, or why its body is refused.
-pub fn card(out: Output, rule: usize, body: &[u8]) -> Output {
-    let headed = out.text(b"rule ").number(rule).text(b": ");
+pub fn card(out: &mut impl Write, rule: usize, body: &[u8]) -> io::Result<()> {
+    write!(out, "rule {rule}: ")?;
     let mut area = [0u8; STATE_LIMIT];
     match classes::classify(body, &mut area) {
-        Classification::Refused(r) => words::body_refusal(headed, r),
-        Classification::Classified {
-            monitorability,
-            reached,
-        } => {
-            let judged = words::monitorability(headed, monitorability).text(b"\n");
-            let sized = sizes(judged, body, reached);
+        Ok(classified) => {
             let classes = basics::part(&area, 0, basics::byte_at(body, 0));
-            let classed = drawing::states::class_lines(sized, classes);
-            let settled = drawing::settled::line(classed, monitor::drawn_marks(body), classes);
-            let marked = faults_by(settled.text(b"by marks\n"), body, 3);
-            faults_by(marked.text(b"by classes\n"), body, 6)
+            table(out, body, classified, classes)
         }
+        Err(refusal) => writeln!(out, "{}", Refused(refusal)),
     }
 }

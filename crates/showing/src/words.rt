@@ -1,66 +1,71 @@
 // The words of a card: refusals of a body, monitorability, faults and beliefs.
-use basics::Refusal;
+use basics::{Reason, Refusal};
+use classes::Monitorability;
 use faults::Kind;
-use immunity::Finding;
-use output::Output;
-use trust::Trust;
+use std::fmt;
+use std::fmt::{Display, Formatter};
+use witness::Witness;
 
-// What the place of a refused body counts.
-fn body_place(out: Output, number: usize) -> Output {
-    match number {
-        1 => out.text(b" at length "),
-        4 => out.text(b" at length "),
-        _ => out.text(b" at byte "),
+// Why a body is refused, in words.
+#[derive(Drop)]
+pub struct Refused(pub Refusal);
+
+impl Display for Refused {
+    fn fmt<W: fmt::Write>(&self, f: &mut Formatter<W>) -> fmt::Result {
+        let reason = self.0.reason;
+        let counted = match reason {
+            Reason::BodyTooShort | Reason::BodyLength => "length",
+            _ => "byte",
+        };
+        let number = reason.number();
+        write!(
+            f,
+            "refused {number} at {counted} {} ({reason})",
+            self.0.place
+        )
     }
 }
 
-pub fn body_refusal(out: Output, r: Refusal) -> Output {
-    let begun = body_place(out.text(b"refused ").number(r.number), r.number);
-    printing::reason(begun.number(r.place).text(b" ("), r.number).text(b")\n")
-}
-
-pub fn monitorability(out: Output, m: usize) -> Output {
-    let word = printing::monitorability_word(out, m);
-    match m {
-        0 => word.text(b" (true can be found, false cannot)"),
-        1 => word.text(b" (false can be found, true cannot)"),
-        2 => word.text(b" (true and false can be found)"),
-        _ => word.text(b" (an ugly state can be reached: no verdict from there on)"),
+// What a monitorability means.
+pub fn meaning(monitorability: Monitorability) -> &'static str {
+    match monitorability {
+        Monitorability::Positive => "true can be found, false cannot",
+        Monitorability::Negative => "false can be found, true cannot",
+        Monitorability::Both => "true and false can be found",
+        Monitorability::Neither => "an ugly state can be reached: no verdict from there on",
     }
 }
 
-// The name of a fault, up to the column where its finding begins.
-pub fn fault_name(out: Output, kind: Kind) -> Output {
+pub fn fault_name(kind: Kind) -> &'static str {
     match kind {
-        Kind::Loss => out.text(b"  loss            "),
-        Kind::Corruption => out.text(b"  corruption      "),
-        Kind::Repeat => out.text(b"  repeat          "),
-        Kind::Swap => out.text(b"  swap            "),
+        Kind::Loss => "loss",
+        Kind::Corruption => "corruption",
+        Kind::Repeat => "repeat",
+        Kind::Swap => "swap",
     }
-}
-
-// A finding that has no witness.
-pub fn no_witness(out: Output, finding: Finding) -> Output {
-    let Finding::Refused(r) = finding else {
-        return out.text(b"immune\n");
-    };
-    body_refusal(out, r)
 }
 
 // Whether a verdict can be believed.
-pub fn belief(out: Output, answer: Trust) -> Output {
-    match answer {
-        Trust::Refused(r) => printing::refusal(out, r),
-        Trust::Yes => out.text(b"yes"),
-        Trust::No(_) => out.text(b"no"),
+#[derive(Drop)]
+pub struct Belief(pub Result<Option<Witness>, Refusal>);
+
+impl Display for Belief {
+    fn fmt<W: fmt::Write>(&self, f: &mut Formatter<W>) -> fmt::Result {
+        match self.0 {
+            Ok(None) => write!(f, "yes"),
+            Ok(Some(_)) => write!(f, "no"),
+            Err(refusal) => write!(f, "{refusal}"),
+        }
     }
 }
 
 // A number and what it counts, in the singular or the plural.
-pub fn counted(out: Output, n: usize, noun: &[u8]) -> Output {
-    let singular = out.number(n).text(noun);
-    if n == 1 {
-        return singular;
+#[derive(Drop)]
+pub struct Counted(pub usize, pub &'static str);
+
+impl Display for Counted {
+    fn fmt<W: fmt::Write>(&self, f: &mut Formatter<W>) -> fmt::Result {
+        let plural = if self.0 == 1 { "" } else { "s" };
+        write!(f, "{} {}{plural}", self.0, self.1)
     }
-    singular.text(b"s")
 }

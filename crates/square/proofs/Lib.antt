@@ -1,4 +1,3 @@
-pub mod Filled
 pub mod Path
 pub mod Stage
 pub mod Walk

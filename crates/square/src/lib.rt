@@ -6,20 +6,20 @@
 ghost use Rattle.std.specs.Prelude.{◌≡◌, ◌+◌, ◌≤◌, ◌<◌, length};
 ghost use Rattle.std.proofs.lemmas.List.Edits.{sets};
 ghost use Rattle.theory.specs.Automaton.{run};
-ghost use Rattle.theory.specs.Monitor.{state_limit};
-ghost use Rattle.monitor.specs.Format.{Rows, graph};
+ghost use Rattle.monitor.specs.Graph.{automaton};
 ghost use Rattle.square.specs.Square.{never, place, HasRows, Blank, entry, passing, nearer, Falling, apart};
 
-use theory::{SQUARE_SIZE, STATE_LIMIT};
+use monitor::Graph;
+use theory::STATE_LIMIT;
 
-// Not told apart. Any smaller number counts symbols.
+// Not told apart. Any smaller number counts symbols. A number and no Option: an entry of the square has two bytes.
 pub const NEVER: usize = 65535;
 
 // The same as an entry of the square.
 const NEVER_ENTRY: u16 = NEVER as u16;
 
 // What tells two states apart, by the outputs after the sent and after the received trace.
-#[derive(Clone, Copy)]
+#[derive(Clone, Copy, PartialEq, Eq, Debug)]
 pub enum Test {
     // They differ.
     Differ,
@@ -41,34 +41,14 @@ impl Test {
     }
 }
 
-// ---- the square
-
-// The square filled with "not told apart". It is made once and lent to one search after the other.
-pub fn blank() -> [u16; SQUARE_SIZE]
-    ensures { Blank state_limit result }
-{
-    [NEVER_ENTRY; SQUARE_SIZE]
-}
+// ---- the square. Functions and no methods of a type: callers hold it as an array, or lend it as a slice.
 
 // Fills the rows of n states anew, whatever they held.
 pub fn clear(square: &mut [u16], n: usize)
     requires { HasRows n square.old }
     ensures { Blank n square.new }
 {
-    let end = n * STATE_LIMIT;
-    let mut i = 0;
-    while i < end {
-        square[i] = NEVER_ENTRY;
-        i += 1;
-    }
-}
-
-// An entry as a number of symbols.
-fn wide(entry: u16) -> usize
-    ensures { (result ≡ entry)
-        × (result < 65536) }
-{
-    entry as usize
+    square[..n * STATE_LIMIT].fill(NEVER_ENTRY);
 }
 
 // What the square holds for two states.
@@ -77,7 +57,7 @@ pub fn entry_at(square: &[u16], p: usize, q: usize) -> usize
     ensures { (result ≡ entry square.now p q)
         × (result ≤ never) }
 {
-    wide(square[p * STATE_LIMIT + q])
+    usize::from(square[p * STATE_LIMIT + q])
 }
 
 // ---- the first of the shortest traces that tell two states apart
@@ -91,72 +71,50 @@ pub struct Pair {
 }
 
 // The lowest symbol that leads from p and q to a pair at `distance`, or the number of symbols.
-fn nearer_by(
-    square: &[u16],
-    nexts: &[u8],
-    n: usize,
-    k: usize,
-    distance: usize,
-    p: usize,
-    q: usize,
-) -> usize
-    requires { Rows state_limit n k nexts.now
-        × HasRows n square.now
-        × (p < n)
-        × (q < n) }
-    ensures { result ≡ nearer (graph n k nexts.entry) square.now distance p q }
+fn nearer_by(square: &[u16], graph: &Graph, distance: usize, p: usize, q: usize) -> usize
+    requires { HasRows graph.now.states square.now
+        × (p < graph.now.states)
+        × (q < graph.now.states) }
+    ensures { result ≡ nearer (automaton graph.now) square.now distance p q }
 {
-    let mut a = 0;
-    while a < k {
-        let x = monitor::successor(nexts, n, k, p, a);
-        let y = monitor::successor(nexts, n, k, q, a);
-        if entry_at(square, x, y) == distance {
-            return a;
-        }
-        a += 1;
-    }
-    a
+    basics::first_in(0, graph.symbols, |a| {
+        entry_at(square, graph.successor(p, a), graph.successor(q, a)) == distance
+    })
 }
 
 // Writes the first of the shortest traces that tell p and q apart into the area, from `at` on, and returns the two
 // states it leads to.
 pub fn write_apart(
     square: &[u16],
-    nexts: &[u8],
-    n: usize,
-    k: usize,
+    graph: &Graph,
     p: usize,
     q: usize,
     area: &mut [u8],
     at: usize,
 ) -> Pair
-    requires { Rows state_limit n k nexts.now
-        × HasRows n square.now
-        × Falling (graph n k nexts) square.now
-        × (p < n)
-        × (q < n)
+    requires { HasRows graph.now.states square.now
+        × Falling (automaton graph.now) square.now
+        × (p < graph.now.states)
+        × (q < graph.now.states)
         × (entry square.now p q < never)
         × (at + entry square.now p q ≤ length area.old) }
     ensures area { area.new
-        ≡ sets area.old at (apart (graph n k nexts.entry) square.now p q) }
+        ≡ sets area.old at (apart (automaton graph.now) square.now p q) }
     ensures sent { (result.sent
-        ≡ run (graph n k nexts.entry) p (apart (graph n k nexts.entry) square.now p q))
-        × (result.sent < n) }
+        ≡ run (automaton graph.now) p (apart (automaton graph.now) square.now p q))
+        × (result.sent < graph.now.states) }
     ensures received { (result.received
-        ≡ run (graph n k nexts.entry) q (apart (graph n k nexts.entry) square.now p q))
-        × (result.received < n) }
+        ≡ run (automaton graph.now) q (apart (automaton graph.now) square.now p q))
+        × (result.received < graph.now.states) }
 {
+    let distance = entry_at(square, p, q);
     let mut x = p;
     let mut y = q;
-    let mut i = at;
-    let mut left = entry_at(square, p, q);
-    while left > 0 {
-        left -= 1;
-        let a = nearer_by(square, nexts, n, k, left, x, y);
-        area[i] = a as u8;
-        x = monitor::successor(nexts, n, k, x, a);
-        y = monitor::successor(nexts, n, k, y, a);
-        i += 1;
+    for i in 0..distance {
+        let a = nearer_by(square, graph, distance - (i + 1), x, y);
+        area[at + i] = a as u8;
+        x = graph.successor(x, a);
+        y = graph.successor(y, a);
     }
     Pair {
         sent: x,

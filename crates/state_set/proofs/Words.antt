@@ -3,19 +3,18 @@ use mathlib.Core.Path.{◌≡◌, refl, sym, ap, ◌∙◌}
 use mathlib.Core.Bool.{Bool, true, false, cond, not, ◌&&◌, ◌||◌, and-false, or-false}
 use mathlib.Core.List.{List}
 use mathlib.Core.Logic.{⊎_elim}
-use Prim.Native.Nat.{ℕ, zero, suc, ◌+◌, ◌-◌, ◌*◌, ◌/◌, ◌%◌, ◌^◌, ◌≤◌, ◌<◌, zero-le}
+use Prim.Native.Nat.{ℕ, zero, suc, ◌+◌, ◌-◌, ◌*◌, ◌/◌, ◌%◌, ◌^◌, ◌≤◌, ◌<◌}
 use native.Mathlib.Omega.{arith}
 use lib.Dec.{eqb, ltb}
 use lib.ListN.{length, get_or, set, replicate, length-set, get_or-replicate}
 use lib.Seq.{get_or-set_same, get_or-set_other}
 use lib.Bits.{bit_and, bit_or}
-use lib.Count.{ones, count_trailing_zeros}
+use lib.Count.{ones}
 use borrow.Author.Tests.{eq-eqb, ne_eqb, eqb-true, eqb-false, lt-ltb, le-ltb}
-use Rattle.theory.specs.Below.{count, first}
-use Rattle.theory.proofs.Below.{both_ways, lt_or_le, count_same, count_joined, first_is, first_le, first_below, first_here}
-use Rattle.theory.proofs.Below.{first_lower, first_upper}
-use Rattle.theory.proofs.Bits.{bit, bit_empty, bit_high, bit_and_lem, bit_or_lem, bit_not, bit_minus, bit_lowest_out, ones_count, zeros_first, zeros_less}
-use Rattle.state_set.specs.Member.{in_word, in_words, is_part, in_part, lowest_in, set_at, Put, PutPart}
+use Rattle.theory.specs.Below.{count}
+use Rattle.theory.proofs.Below.{both_ways, lt_or_le, count_same, count_joined}
+use Rattle.theory.proofs.Bits.{bit, bit_empty, bit_high, bit_and_lem, bit_or_lem, bit_not, bit_minus, ones_count}
+use Rattle.state_set.specs.Member.{in_word, in_words, is_part, in_part, set_at, Put, PutPart}
 
 module _ (low high : ℕ) where
   pub low_at : (q : ℕ) → q < 64 → in_words low high q ≡ in_word low q
@@ -76,7 +75,7 @@ pub words_past : (low high q : ℕ) → high < 2 ^ 64 → 128 ≤ q → in_words
 unfolding in_word
 words_past low high q h l = high_from low high q (omega (arith, l)) ∙ bit_high 64 high (q - 64) h (omega (arith, l))
 
--- ---- how many, and which is the lowest
+-- ---- how many
 
 pub words_count : (low high : ℕ) → low < 2 ^ 64 → high < 2 ^ 64 → ones low + ones high ≡ count 128 (in_words low high)
 unfolding in_word
@@ -84,27 +83,6 @@ words_count low high l h =
     rw (ones_count 64 low l, ones_count 64 high h)
     (sym (count_joined 64 64 (in_words low high) (in_word high) (high_at low high)
     ∙ ap (λ (x : ℕ). x + count 64 (in_word high)) (count_same 64 (in_words low high) (in_word low) (low_at low high))))
-
-module _ (low high : ℕ) where
-  first_low : first (in_words low high) 0 64 ≡ first (in_word low) 0 64
-  first_low =
-      first_is (in_words low high) 64 0 (first (in_word low) 0 64) zero-le (first_le (in_word low) 0 64)
-      (λ j a b. low_at low high j (omega (arith, b, first_le (in_word low) 0 64)) ∙ first_below (in_word low) 0 64 j a b)
-      (λ l. low_at low high (first (in_word low) 0 64) l ∙ first_here (in_word low) 0 64 l)
-
-  pub words_first_low : 0 < low → low < 2 ^ 64 → count_trailing_zeros 64 low ≡ first (in_words low high) 0 128
-  unfolding in_word
-  words_first_low some l =
-      let z = zeros_first 64 low in
-      let s = zeros_less 64 low l some in
-      z ∙ sym first_low ∙ sym (first_lower 64 64 (in_words low high) (omega (arith, z, s, first_low)))
-
-  pub words_first_high : low ≡ 0 → count_trailing_zeros 64 high + 64 ≡ first (in_words low high) 0 128
-  unfolding in_word
-  words_first_high none =
-      let e = first_upper 64 64 (in_words low high) (in_word high) (high_at low high) (λ q l. low_at low high q l ∙ rw none (bit_empty q)) in
-      let z = zeros_first 64 high in
-      omega (arith, e, z)
 
 -- ---- sets in arrays
 
@@ -258,30 +236,3 @@ words_full q l =
   where
     full : (i : ℕ) → i < 64 → bit (2 ^ 64 - 1) i ≡ true
     full i l = bit_not 64 0 i (omega arith) l ∙ rw (bit_empty i)
-
-pub lowest_at : (w word : ℕ) → word < 2 ^ 64 → 0 < word → in_part w word (lowest_in w word) ≡ true
-unfolding in_part in_word
-lowest_at w word h l =
-    let t = count_trailing_zeros 64 word in
-    let less = zeros_less 64 word h l in
-    let d : (t + w * 64) / 64 ≡ w = omega (arith, less) in
-    let m : (t + w * 64) % 64 ≡ t = omega (arith, less) in
-    let z = zeros_first 64 word in
-    rw (d, m, eq-eqb w w refl, z) (first_here (bit word) 0 64 (omega (arith, less, z)))
-
-pub lowest_below : (w word : ℕ) → w < 2 → word < 2 ^ 64 → 0 < word → lowest_in w word < 128
-lowest_below w word lw h l = omega (arith, zeros_less 64 word h l, lw)
-
-pub lowest_taken : (w word q : ℕ) → word < 2 ^ 64 → 0 < word → in_part w (bit_and word (word - 1)) q ≡ (in_part w word q && not (eqb q (lowest_in w word)))
-unfolding in_part in_word
-lowest_taken w word q h l = rw (bit_lowest_out 64 word h l (q % 64)) (go (is_part w q) refl)
-  where
-    same : q / 64 ≡ w → eqb (q % 64) (count_trailing_zeros 64 word) ≡ eqb q (lowest_in w word)
-    same e = both_ways
-        (λ k. eq-eqb q (lowest_in w word) (let z = eqb-true (q % 64) (count_trailing_zeros 64 word) k in omega (arith, z, e)))
-        (λ k. eq-eqb (q % 64) (count_trailing_zeros 64 word) (let z = eqb-true q (lowest_in w word) k in let s = zeros_less 64 word h l in omega (arith, z, s, e)))
-
-    go : (b : Bool) → is_part w q ≡ b
-        → (b && (bit word (q % 64) && not (eqb (q % 64) (count_trailing_zeros 64 word)))) ≡ ((b && bit word (q % 64)) && not (eqb q (lowest_in w word)))
-    go true k = rw (same (eqb-true (q / 64) w k))
-    go false k = refl

@@ -1,1 +1,3 @@
 pub mod Member
+pub mod Taking
+pub mod Placing

@@ -1,6 +1,5 @@
 -- What is in a set of states.
 use Rattle.std.specs.Prelude.{◌≡◌, Bool, cond, ◌&&◌, List, ℕ, ◌+◌, ◌-◌, ◌*◌, ◌/◌, ◌%◌, ◌^◌, eqb, ltb, length, get_or}
-use Rattle.std.specs.Int.Count.{count_trailing_zeros}
 use Rattle.theory.specs.Monitor.{state_limit}
 use Rattle.state_set.specs.declared.StateSet.{StateSet}
 
@@ -23,10 +22,6 @@ is_part w q = eqb (q / 64) w
 -- it is in a word that holds states of part w
 unfoldable pub in_part : ℕ → ℕ → ℕ → Bool
 in_part w word q = is_part w q && in_word word (q % 64)
-
--- the lowest state of such a word
-abbrev pub lowest_in : ℕ → ℕ → ℕ
-lowest_in w word = count_trailing_zeros 64 word + w * 64
 
 -- the set holds the states below n that pass the test, and no other
 pub record Exactly (n : ℕ) (f : ℕ → Bool) (s : StateSet) : Type 0 where

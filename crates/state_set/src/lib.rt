@@ -1,12 +1,18 @@
 // Sets of states, each two 64-bit words: the states below 64 in the lower word, the others in the upper one.
 #![tactic(auto)]
 
-ghost use Rattle.std.specs.Prelude.{◌≡◌, true, false, not, ◌&&◌, ◌||◌, ℕ, ◌+◌, ◌*◌, ◌<◌, eqb, ltb, length};
+ghost use Rattle.std.specs.Prelude.{◌≡◌, false, not, ◌&&◌, ◌||◌, ℕ, ◌+◌, ◌*◌, ◌<◌, eqb, ltb, length};
 ghost use Rattle.theory.specs.Below.{count, first};
 ghost use Rattle.theory.specs.Monitor.{state_limit};
-ghost use Rattle.state_set.specs.Member.{is_part, in_part, lowest_in, member, set_at, Put, PutPart};
+ghost use Rattle.state_set.specs.Member.{is_part, in_part, member, set_at, Put, PutPart};
 
 use theory::STATE_LIMIT;
+
+mod puts;
+mod states;
+
+pub use puts::put_each;
+pub use states::{PartStates, States, part_states};
 
 // How many words a set has, and how many states a word.
 pub const WORDS: usize = 2;
@@ -44,20 +50,6 @@ impl StateSet {
     {
         words[i * WORDS] = self.low;
         words[i * WORDS + 1] = self.high;
-    }
-
-    // The lower word: the states of part 0.
-    pub fn low(self) -> u64
-        ensures { (q : ℕ) → in_part 0 result q ≡ (is_part 0 q && member self q) }
-    {
-        self.low
-    }
-
-    // The upper word: the states of part 1.
-    pub fn high(self) -> u64
-        ensures { (q : ℕ) → in_part 1 result q ≡ (is_part 1 q && member self q) }
-    {
-        self.high
     }
 
     // The set with q in it too. A q that is no state's number adds nothing.
@@ -125,14 +117,11 @@ impl StateSet {
         self.minus(Self::empty().with(q))
     }
 
-    // The lowest state of the set, or the limit where the set is empty.
-    pub fn lowest(self) -> usize
-        ensures { result ≡ first (member self) 0 state_limit }
+    // Whether no state is in the set.
+    pub fn is_empty(self) -> bool
+        ensures { result ≡ eqb (first (member self) 0 state_limit) state_limit }
     {
-        if self.low != 0 {
-            return u64::trailing_zeros(self.low) as usize;
-        }
-        u64::trailing_zeros(self.high) as usize + WORD
+        self.first().is_none()
     }
 
     // How many states are in the set.
@@ -141,13 +130,6 @@ impl StateSet {
     {
         u64::count_ones(self.low) as usize + u64::count_ones(self.high) as usize
     }
-}
-
-// Whether no state is in the set.
-pub fn is_empty(set: StateSet) -> bool
-    ensures { result ≡ eqb (first (member set) 0 state_limit) state_limit }
-{
-    set.lowest() == STATE_LIMIT
 }
 
 // ---- one word of a set: the states of part w, of which there are 64
@@ -168,24 +150,4 @@ pub fn put_word(words: &mut [u64], i: usize, w: usize, word: u64)
     ensures { PutPart words.old i w (in_part w word) words.new }
 {
     words[i * WORDS + w] = word;
-}
-
-// The lowest state of a word that has one.
-pub fn lowest_of(word: u64, w: usize) -> usize
-    requires { (w < 2)
-        × (0 < word) }
-    ensures lowest { result ≡ lowest_in w word }
-    ensures found { (in_part w word result ≡ true)
-        × (result < state_limit) }
-{
-    u64::trailing_zeros(word) as usize + w * WORD
-}
-
-// The word without its lowest state.
-pub fn without_lowest(word: u64) -> u64
-    requires { 0 < word }
-    ensures { ((w q : ℕ) → in_part w result q ≡ (in_part w word q && not (eqb q (lowest_in w word))))
-        × (result < word) }
-{
-    word & (word - 1)
 }

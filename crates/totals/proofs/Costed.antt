@@ -3,7 +3,6 @@ use mathlib.Core.Path.{◌≡◌, sym, ap, subst, ◌∙◌}
 use mathlib.Core.List.{List}
 use mathlib.Core.Logic.{◌⊎◌, inl, inr, ⊎_elim}
 use Prim.Native.Nat.{ℕ, ◌+◌, ◌-◌, ◌≤◌, ◌<◌, min}
-use native.Mathlib.Nat.{le_refl, not-suc-le-zero}
 use native.Mathlib.Omega.{arith}
 use lib.ListN.{length, get_or, set, length-set}
 use lib.Seq.{get_or-set_same, get_or-set_other}
@@ -16,19 +15,7 @@ use Rattle.faults.specs.Steps.{plus, cost_of, Attained, Cheapest}
 use Rattle.faults.specs.Looks.{OfSet}
 use Rattle.layers.specs.Layers.{Queue}
 use Rattle.layers.proofs.Queue.{listed_found}
-use Rattle.totals.specs.Totals.{Unused, Makes, Costed, Enough}
-
-pub costed_none : {limit : ℕ} (g : Automaton) (square : List ℕ) (bits : ℕ) {order depths costs : List ℕ} → g.states ≤ limit → Unused limit costs
-    → Costed limit g square (OfSet bits g.symbols) order depths 0 costs never
-costed_none g square bits few u = record {
-  size = u.size;
-  most = le_refl never;
-  shallow = λ i l. absurd (not-suc-le-zero l);
-  above = λ i l. absurd (not-suc-le-zero l);
-  least = λ i l. absurd (not-suc-le-zero l);
-  attained = λ q lq l. absurd (omega (arith, l, u.filled q (omega (arith, lq, few))));
-  makes = λ l. absurd (omega (arith, l));
-}
+use Rattle.totals.specs.Totals.{Makes, Costed}
 
 -- no fault step costs less than 1
 cost_some : (g : Automaton) (square : List ℕ) (bits p : ℕ) (s : FaultStep) → OfSet bits g.symbols s → 1 ≤ cost_of g square p s
@@ -45,19 +32,6 @@ module _ {limit : ℕ} (g : Automaton) (square : List ℕ) (bits : ℕ) {count i
 
   pub costed_depth : d < limit
   costed_depth = (let l = listed_found few queue i li in let e = ap (λ (q : ℕ). get_or depths q 0) ep in omega (arith, l, e, ed))
-
-  -- all that come are at least as deep as the least total
-  pub costed_stops : total ≤ d → Enough order depths count i total
-  costed_stops l = record {
-    within = omega (arith, li);
-    all = λ j lj s.
-        ⊎_elim (λ m. m)
-        (λ (m : i ≤ j).
-        let r = queue.rises i j m lj in
-        let e = ap (λ (q : ℕ). get_or depths q 0) ep in
-        absurd (omega (arith, r, e, ed, s, l)))
-        (lt_or_le j i);
-  }
 
   module _ {cost : ℕ} (low : d < total) (cheapest : Cheapest g square p (OfSet bits g.symbols) (total - d) cost) where
     abbrev costs₁ : List ℕ
@@ -120,6 +94,3 @@ module _ {limit : ℕ} (g : Automaton) (square : List ℕ) (bits : ℕ) {count i
         old : total₁ < never → total ≤ d + cost → Makes limit g square (OfSet bits g.symbols) depths total₁
         old l m = (let z : total ≡ total₁ = omega (arith, e, m) in subst (λ (t : ℕ). Makes limit g square (OfSet bits g.symbols) depths t) z
             (h.makes (omega (arith, z, l))))
-
-pub costed_all : {order depths : List ℕ} {count i total : ℕ} → i ≤ count → count ≤ i → Enough order depths count i total
-costed_all m l = record { within = m; all = λ j lj s. omega (arith, lj, l) }

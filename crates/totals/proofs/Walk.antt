@@ -45,9 +45,6 @@ module _ (g : Automaton) (v costs : List ℕ) where
     pub count : i + length (approach g v costs left p) ≡ length (way_to_fault g v costs start)
     pub leads : run g p (approach g v costs left p) ≡ run g start (way_to_fault g v costs start)
 
-  pub walk_begins : {start : ℕ} {area : List ℕ} → start < g.states → get_or v start 0 < never → Walk start area area start 0 (get_or v start 0)
-  walk_begins l s = record { inside = l; here = refl; low = s; total = omega arith; size = refl; written = refl; count = omega arith; leads = refl }
-
 module _ {g : Automaton} {v costs before area : List ℕ} {start p i left : ℕ} (w : Walk g v costs start before area p i left) where
   module _ (leading : Leading g v costs) (ne : get_or costs p 0 ≡ left → ⊥) where
     -- a symbol is left
@@ -83,6 +80,10 @@ module _ {g : Automaton} {v costs before area : List ℕ} {start p i left : ℕ}
             leads = ap (run g p) (sym rest) ∙ w.leads;
           })
 
+  -- where nothing is left, nothing is what the fault costs
+  pub walk_spent : Leading g v costs → left ≡ 0 → get_or costs p 0 ≡ left
+  walk_spent leading e = ⊎_elim (λ z. z) (λ s. absurd (omega (arith, s.1, e))) (leading.leads p left w.inside w.here w.low)
+
   module _ (e : get_or costs p 0 ≡ left) where
     pub walk_written : area ≡ sets before 0 (way_to_fault g v costs start)
     walk_written = rw (approach_ends g v costs left p e) at w.written
@@ -93,6 +94,3 @@ module _ {g : Automaton} {v costs before area : List ℕ} {start p i left : ℕ}
     pub walk_state : p ≡ run g start (way_to_fault g v costs start)
     unfolding run
     walk_state = rw (approach_ends g v costs left p e) at w.leads
-
-    pub walk_cost : i + get_or costs p 0 ≡ get_or v start 0
-    walk_cost = omega (arith, w.total, e)

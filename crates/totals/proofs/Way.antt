@@ -11,7 +11,7 @@ use Rattle.theory.specs.Automaton.{Automaton}
 use Rattle.theory.proofs.Below.{clash, lt_or_le, same_or_not, first_below, first_here}
 use Rattle.square.specs.Square.{never}
 use Rattle.layers.specs.Layers.{depth_at, Queue}
-use Rattle.totals.specs.Totals.{Unused, onward, LeadsOn, OnTheWay}
+use Rattle.totals.specs.Totals.{onward, LeadsOn, OnTheWay}
 use Rattle.totals.proofs.Walk.{leads_to_total}
 
 module _ (g : Automaton) (v : List ℕ) where
@@ -25,15 +25,6 @@ module _ (g : Automaton) (v : List ℕ) where
 
   pub onward_leads : (m q : ℕ) → onward g v m q < g.symbols → get_or v (g.next q (onward g v m q)) 0 ≡ m
   onward_leads m q l = eqb-true (get_or v (g.next q (onward g v m q)) 0) m (first_here (leads_to_total g v m q) 0 g.symbols (omega (arith, l)))
-
-pub way_none : {limit : ℕ} {g : Automaton} {order depths costs v : List ℕ} {total visited : ℕ} → g.states ≤ limit → Unused limit v
-    → OnTheWay limit g order depths costs total visited visited v
-way_none few u = record {
-  size = u.size;
-  left = λ q lq l. absurd (omega (arith, l, u.filled q (omega (arith, lq, few))));
-  leading = record { leads = λ q l lq e s. absurd (omega (arith, e, s, u.filled q (omega (arith, lq, few)))) };
-  complete = λ i l f t. absurd (omega (arith, f, t));
-}
 
 module _ {limit : ℕ} {g : Automaton} {order depths costs v : List ℕ} {total visited count i p : ℕ} (l : ℕ) (few : g.states ≤ limit)
     (queue : Queue limit g.states count order depths) (li : i < count) (ep : p ≡ get_or order i 0) (el : l + get_or depths p 0 ≡ total) (low : total < never)

@@ -6,7 +6,7 @@ ghost use Rattle.std.specs.Prelude.{◌≡◌, true, false, ◌+◌, ◌≤◌, 
 ghost use Rattle.std.proofs.lemmas.List.Edits.{sets};
 ghost use Rattle.theory.specs.Automaton.{run};
 ghost use Rattle.theory.specs.Monitor.{state_limit};
-ghost use Rattle.monitor.specs.Format.{Rows, graph};
+ghost use Rattle.monitor.specs.Graph.{automaton};
 ghost use Rattle.square.specs.Square.{never, HasRows};
 ghost use Rattle.faults.specs.Looks.{OfSet, Suited};
 ghost use Rattle.layers.specs.Layers.{Queue};
@@ -14,198 +14,157 @@ ghost use Rattle.totals.specs.Totals.{Unused, Shallow, Costed, Enough};
 ghost use Rattle.totals.specs.Totals.{onward, way_to_fault, LeadsOn, Leading, OnTheWay};
 
 use faults::FaultSet;
+use layers::Layers;
+use monitor::Graph;
 use square::{NEVER, Test};
 use theory::STATE_LIMIT;
 
 // NEVER, as the arrays hold it.
-const UNKNOWN: u16 = 65535;
+const UNKNOWN: u16 = NEVER as u16;
 
 // Where the symbols before a fault lead, and how many they are.
-#[derive(Drop)]
+#[derive(Clone, Copy)]
 pub struct Approach {
     pub state: usize,
     pub count: usize,
 }
 
-// The least total of a fault set, and how many states of the order were looked at.
+// What the cheapest fault of a set costs at the first states of the layers, the least total that it makes there, and
+// how many states were visited.
 #[derive(Clone, Copy)]
-pub struct Least {
+pub struct Costs {
+    pub costs: [u16; STATE_LIMIT],
     pub total: usize,
     pub visited: usize,
 }
 
-// An entry of an array as a number of symbols.
-fn wide(x: u16) -> usize
-    ensures { result ≡ x }
-{
-    x as usize
-}
-
 // An array for costs or totals of states, none of which is known yet.
-pub fn unused() -> [u16; STATE_LIMIT]
+fn unused() -> [u16; STATE_LIMIT]
     ensures { Unused state_limit result }
 {
     [UNKNOWN; STATE_LIMIT]
 }
 
-// Enters what the cheapest fault of the set costs at the states of the order, as long as they are not too deep for a
-// total as low as the least so far.
-pub fn enter_costs(
-    costs: &mut [u16; STATE_LIMIT],
-    order: &[u8; STATE_LIMIT],
-    depths: &[u8; STATE_LIMIT],
-    count: usize,
-    square: &[u16],
-    nexts: &[u8],
-    n: usize,
-    k: usize,
-    set: FaultSet,
-    test: Test,
-) -> Least
-    requires { Rows state_limit n k nexts.now
-        × Queue state_limit n count order.now depths.now
-        × HasRows n square.now
-        × Suited test n square.now
-        × Unused state_limit costs.old }
-    ensures costed { Costed state_limit (graph n k nexts.entry) square.now (OfSet set.bits k)
-        order.now depths.now result.visited costs.new result.total }
-    ensures enough { Enough order.now depths.now count result.visited result.total }
-{
-    let mut total = NEVER;
-    let mut i = 0;
-    while i < count {
-        let p = order[i] as usize;
-        let depth = depths[p] as usize;
-        if total < depth + 1 {
-            return Least { total, visited: i };
+impl Costs {
+    // The costs at the states of the layers, as long as these are not too deep for a total as low as the least so far.
+    pub fn of(square: &[u16], graph: &Graph, layers: &Layers, set: FaultSet, test: Test) -> Costs
+        requires { Queue state_limit graph.now.states layers.now.count layers.now.order layers.now.depths
+            × HasRows graph.now.states square.now
+            × Suited test graph.now.states square.now }
+        ensures costed { Costed state_limit (automaton graph.now) square.now (OfSet set.bits graph.now.symbols)
+            layers.now.order layers.now.depths result.visited result.costs result.total }
+        ensures enough { Enough layers.now.order layers.now.depths layers.now.count result.visited result.total }
+    {
+        let mut costs = unused();
+        let mut total = NEVER;
+        for visited in 0..layers.count {
+            let p = usize::from(layers.order[visited]);
+            let depth = usize::from(layers.depths[p]);
+            if total < depth + 1 {
+                return Costs {
+                    costs,
+                    total,
+                    visited,
+                };
+            }
+            let cost = faults::cost_within(square, graph, set, test, p, total - depth);
+            costs[p] = cost as u16;
+            total = basics::least_of(depth + cost, total);
         }
-        let cost = faults::cost_within(square, nexts, n, k, set, test, p, total - depth);
-        costs[p] = cost as u16;
-        total = basics::least_of(depth + cost, total);
-        i += 1;
+        Costs {
+            costs,
+            total,
+            visited: layers.count,
+        }
     }
-    Least { total, visited: i }
 }
 
 // The lowest symbol from p to a state with so much left, or the number of symbols.
-fn onward_by(
-    totals: &[u16; STATE_LIMIT],
-    nexts: &[u8],
-    n: usize,
-    k: usize,
-    total: usize,
-    p: usize,
-) -> usize
-    requires { Rows state_limit n k nexts.now
-        × (p < n) }
-    ensures { result ≡ onward (graph n k nexts.entry) totals.now total p }
+fn onward_by(totals: &[u16; STATE_LIMIT], graph: &Graph, left: usize, p: usize) -> usize
+    requires { p < graph.now.states }
+    ensures { result ≡ onward (automaton graph.now) totals.now left p }
 {
-    let mut a = 0;
-    while a < k {
-        let x = monitor::successor(nexts, n, k, p, a);
-        if wide(totals[x]) == total {
-            return a;
-        }
-        a += 1;
-    }
-    a
+    basics::first_in(0, graph.symbols, |a| {
+        usize::from(totals[graph.successor(p, a)]) == left
+    })
 }
 
 // Whether a fault at p costs what is left, or some symbol leads on to a state with one less left.
+// The totals are lent by themselves, and not in a struct with the costs and the graph: `enter_totals` goes on entering.
 fn leads_on(
     totals: &[u16; STATE_LIMIT],
-    costs: &[u16; STATE_LIMIT],
-    nexts: &[u8],
-    n: usize,
-    k: usize,
+    costs: &Costs,
+    graph: &Graph,
     p: usize,
     left: usize,
 ) -> bool
-    requires { Rows state_limit n k nexts.now
-        × (p < n)
+    requires { (p < graph.now.states)
         × (1 ≤ left) }
     ensures yes { result ≡ true
-        → LeadsOn (graph n k nexts.entry) totals.now costs.now left p }
+        → LeadsOn (automaton graph.now) totals.now costs.now.costs left p }
     ensures no { result ≡ false
-        → LeadsOn (graph n k nexts.entry) totals.now costs.now left p → ⊥ }
+        → LeadsOn (automaton graph.now) totals.now costs.now.costs left p → ⊥ }
 {
-    if wide(costs[p]) == left {
-        return true;
-    }
-    if onward_by(totals, nexts, n, k, left - 1, p) < k {
-        return true;
-    }
-    false
+    usize::from(costs.costs[p]) == left || onward_by(totals, graph, left - 1, p) < graph.symbols
 }
 
-// Enters what is left of the least total at each state from which the layers lead on to a fault that makes it.
-pub fn enter_totals(
-    totals: &mut [u16; STATE_LIMIT],
-    costs: &[u16; STATE_LIMIT],
-    order: &[u8; STATE_LIMIT],
-    depths: &[u8; STATE_LIMIT],
-    nexts: &[u8],
-    n: usize,
-    k: usize,
-    count: usize,
-    least: Least,
-)
-    requires { Rows state_limit n k nexts.now
-        × Queue state_limit n count order.now depths.now
-        × (least.visited ≤ count)
-        × Shallow order.now depths.now least.visited least.total
-        × (least.total < never)
-        × Unused state_limit totals.old }
-    ensures { OnTheWay state_limit (graph n k nexts.entry) order.now depths.now
-        costs.now least.total 0 least.visited totals.new }
+// What is left of the least total at each state from which the layers lead on to a fault that makes it.
+pub fn enter_totals(costs: &Costs, layers: &Layers, graph: &Graph) -> [u16; STATE_LIMIT]
+    requires { Queue state_limit graph.now.states layers.now.count layers.now.order layers.now.depths
+        × (costs.now.visited ≤ layers.now.count)
+        × Shallow layers.now.order layers.now.depths costs.now.visited costs.now.total
+        × (costs.now.total < never) }
+    ensures { OnTheWay state_limit (automaton graph.now) layers.now.order layers.now.depths
+        costs.now.costs costs.now.total 0 costs.now.visited result }
 {
-    let mut i = least.visited;
-    while i > 0 {
-        i -= 1;
-        let p = order[i] as usize;
-        let left = least.total - depths[p] as usize;
-        if leads_on(totals, costs, nexts, n, k, p, left) {
+    let mut totals = unused();
+    for i in (0..costs.visited).rev() {
+        let p = usize::from(layers.order[i]);
+        let left = costs.total - usize::from(layers.depths[p]);
+        if leads_on(&totals, costs, graph, p, left) {
             totals[p] = left as u16;
         }
     }
+    totals
 }
 
 // Writes the symbols before the fault into the area, and returns where they lead.
 pub fn write_before(
     totals: &[u16; STATE_LIMIT],
-    costs: &[u16; STATE_LIMIT],
-    nexts: &[u8],
-    n: usize,
-    k: usize,
+    costs: &Costs,
+    graph: &Graph,
     start: usize,
     area: &mut [u8],
 ) -> Approach
-    requires { Rows state_limit n k nexts.now
-        × Leading (graph n k nexts) totals.now costs.now
-        × (start < n)
+    requires { Leading (automaton graph.now) totals.now costs.now.costs
+        × (start < graph.now.states)
         × (get_or totals.now start 0 < never)
         × (get_or totals.now start 0 ≤ length area.old) }
     ensures area { area.new
         ≡ sets area.old 0
-        (way_to_fault (graph n k nexts.entry) totals.now costs.now start) }
+        (way_to_fault (automaton graph.now) totals.now costs.now.costs start) }
     ensures count { result.count
-        ≡ length (way_to_fault (graph n k nexts.entry) totals.now costs.now start) }
+        ≡ length (way_to_fault (automaton graph.now) totals.now costs.now.costs start) }
     ensures state { (result.state
-        ≡ run (graph n k nexts.entry) start
-        (way_to_fault (graph n k nexts.entry) totals.now costs.now start))
-        × (result.state < n) }
-    ensures cost { result.count + get_or costs.now result.state 0
+        ≡ run (automaton graph.now) start
+        (way_to_fault (automaton graph.now) totals.now costs.now.costs start))
+        × (result.state < graph.now.states) }
+    ensures cost { result.count + get_or costs.now.costs result.state 0
         ≡ get_or totals.now start 0 }
 {
+    let total = usize::from(totals[start]);
     let mut p = start;
-    let mut i = 0;
-    let mut left = wide(totals[start]);
-    while wide(costs[p]) != left {
-        left -= 1;
-        let a = onward_by(totals, nexts, n, k, left, p);
-        area[i] = a as u8;
-        p = monitor::successor(nexts, n, k, p, a);
-        i += 1;
+    for count in 0..total {
+        let left = total - count;
+        if usize::from(costs.costs[p]) == left {
+            return Approach { state: p, count };
+        }
+        let a = onward_by(totals, graph, left - 1, p);
+        area[count] = a as u8;
+        p = graph.successor(p, a);
     }
-    Approach { state: p, count: i }
+    Approach {
+        state: p,
+        count: total,
+    }
 }

@@ -1,16 +1,15 @@
 -- The question of trust (02, note 3).
-use Rattle.std.specs.Prelude.{List, ◌∷◌, ◌++◌, ℕ}
-use Rattle.std.proofs.Math.Option.{Option, none, some}
-use Rattle.theory.specs.Answer.{Question, Answer, answered, asks}
+use Rattle.std.specs.Prelude.{Result, Option as Maybe, List, ◌∷◌, ◌++◌, ℕ}
+use Rattle.std.proofs.Math.Option.{Option}
+use Rattle.theory.specs.Answer.{Question, Answer, asks}
 use Rattle.theory.specs.Monitor.{Monitor, reading}
 use Rattle.theory.specs.Series.{Series}
 use Rattle.theory.specs.Computed.{first_misreading}
-use Rattle.basics.specs.Refusals.{refusal}
+use Rattle.basics.specs.declared.refusal.Refusal.{Refusal}
 use Rattle.monitor.specs.Format.{monitor_of}
 use Rattle.monitor.specs.Questions.{table_questions, question9, question10, question19}
-use Rattle.witness.specs.Figures.{FaultFigures, witness_figures, witness_trace, room_questions, witness_values}
-use Rattle.trust.specs.declared.Trust.{Trust}
-use Rattle.trust.specs.declared.Trust.TheVariants.{Refused, Yes, No}
+use Rattle.witness.specs.declared.Witness.{Witness}
+use Rattle.witness.specs.Figures.{FaultFigures, witness_figures, witness_trace, room_questions, outcome}
 
 -- "give yes, or the first witness": the figures of the fault question's witness, none for yes
 abbrev pub trust_figures : Monitor → ℕ → ℕ → ℕ → FaultFigures
@@ -31,8 +30,6 @@ trust_answer limit b set d v room =
 abbrev pub trust_trace : List ℕ → ℕ → ℕ → ℕ → List ℕ
 trust_trace b set d v = witness_trace (first_misreading (monitor_of b) d set v)
 
--- 01's number and place of a refusal, or the values of an answer
-abbrev pub trust : Trust → Answer FaultFigures
-trust (Refused r) = refusal r
-trust Yes = answered none
-trust (No w) = answered (some (witness_values w))
+-- 01's number and place of a refusal, or the values of an answer: those of the first witness's outcome
+abbrev pub trust : Result (Maybe Witness) Refusal → Answer FaultFigures
+trust r = outcome r

@@ -19,18 +19,19 @@ use Rattle.theory.proofs.Below.{lt_or_le}
 use Rattle.theory.proofs.Faults.{steps_good, steps_rise}
 use Rattle.theory.proofs.Witness.{none_harms, first_harms, first_least}
 use Rattle.square.specs.Square.{never, Squared}
-use Rattle.totals.specs.declared.Least.{Least}
+use Rattle.layers.specs.declared.Layers.{Layers}
+use Rattle.totals.specs.declared.Costs.{Costs}
 use Rattle.witness.specs.Figures.{WitnessFigures, FaultFigures, series_figures, witness_figures, witness_trace, room_questions}
 use Rattle.witness.specs.Search.{Searched}
-use Rattle.witness.proofs.Search.{total_least, total_found, search_none}
+use Rattle.witness.proofs.Least.{total_least, total_found, search_none}
 
-module _ {limit : ℕ} {g : Automaton} {ends : ℕ → ℕ → Bool} {start set count : ℕ} {square order depths costs : List ℕ} {least : Least} (closed : Closed g)
-    (squared : Squared g ends square) (start_in : start < g.states) (h : Searched limit g start set square order depths costs count least) where
+module _ {limit : ℕ} {g : Automaton} {ends : ℕ → ℕ → Bool} {start set : ℕ} {square : List ℕ} {layers : Layers} {costs : Costs} (closed : Closed g)
+    (squared : Squared g ends square) (start_in : start < g.states) (h : Searched limit g start set square layers costs) where
   abbrev pub first : Option Series
   first = first_harmful g ends (steps set g.symbols) start
 
   abbrev total : ℕ
-  total = least.total
+  total = costs.total
 
   pub is_number : (total ≡ never → ⊥) → total < never
   is_number not = ⊎_elim (λ l. l) (λ l. absurd (not (omega (arith, h.costed.most, l)))) (lt_or_le total never)

@@ -1,4 +1,4 @@
-pub mod Search
+pub mod Least
 pub mod Made
 pub mod Answers
 pub mod Counted

@@ -12,22 +12,21 @@ use borrow.Author.Tests.{eqb-true}
 use Rattle.theory.specs.Lists.{find}
 use Rattle.theory.specs.Automaton.{Automaton, run}
 use Rattle.theory.specs.Faults.{FaultStep, steps}
+use Rattle.theory.specs.Monitor.{state_limit}
 use Rattle.theory.specs.Series.{Series, sent_trace, received_trace}
 use Rattle.theory.specs.Computed.{first_harmful}
 use Rattle.theory.proofs.Lists.{find_in, some_same}
-use Rattle.theory.proofs.Witness.{run_parts, sent_length}
-use Rattle.monitor.specs.declared.Shape.{Shape}
-use Rattle.monitor.proofs.Rows.{next_of_rows}
+use Rattle.theory.proofs.Witness.{run_parts}
 use Rattle.square.specs.Square.{never, entry, apart_at_once, path}
-use Rattle.square.proofs.Path.{path_length}
+use Rattle.square.specs.declared.Pair.{Pair}
 use Rattle.faults.specs.declared.Fault.{Fault}
 use Rattle.faults.specs.Steps.{step_for, Ranged, cost_of, costing}
 use Rattle.faults.proofs.AtMostTwo.{count_is}
-use Rattle.totals.specs.declared.Least.{Least}
+use Rattle.totals.specs.declared.Costs.{Costs}
 use Rattle.totals.specs.Totals.{way_to_fault, OnTheWay}
-use Rattle.witness.specs.declared.Harm.{Harm}
+use Rattle.witness.specs.declared.search.Search.{Search}
 use Rattle.witness.specs.Search.{automaton_in, Ready, Makes}
-use Rattle.witness.proofs.Search.{cost_sum, start_left, search_finds}
+use Rattle.witness.proofs.Least.{cost_sum, start_left, search_finds}
 
 pub sets_append : (l : List ℕ) (i : ℕ) (xs ys : List ℕ) → sets (sets l i xs) (i + length xs) ys ≡ sets l i (xs ++ ys)
 sets_append l i [] ys = ap (λ (j : ℕ). sets l j ys) (add-zero i)
@@ -86,9 +85,6 @@ module _ {g : Automaton} (ends : ℕ → ℕ → Bool) {set : ℕ} {square costs
   made_low : apart < never
   made_low = (let x = made_sum in omega (arith, x, k.low))
 
-  pub made_at : count + fault.sent.count ≤ get_or v start 0
-  made_at = (let x = made_sum in let y = covers in omega (arith, x, y))
-
   -- the trace fits where the total does
   pub made_fits : (area : List ℕ) {one : List ℕ} → one ≡ sets area 0 way → get_or v start 0 ≤ length area → count + length step.sent ≤ length one
   made_fits area e l = (let x = made_sum in let y = ap length e ∙ length-sets area 0 way in omega (arith, x, y, l))
@@ -138,29 +134,20 @@ module _ {g : Automaton} (ends : ℕ → ℕ → Bool) {set : ℕ} {square costs
       ∙ ap (λ (t : Series). sets area 0 (sent_trace t)) (made_is e)
 
   -- what is handed out is the first series
-  pub made_makes : {s : Series} (outs : List ℕ) {x y p q total : ℕ} → get_or v start 0 ≡ total → first_harmful g ends (steps set g.symbols) start ≡ some s
+  pub made_makes : {s : Series} {e : Pair} {p q : ℕ} → first_harmful g ends (steps set g.symbols) start ≡ some s
       → p ≡ run g state step.sent → q ≡ run g state step.received
-      → x ≡ run g p (path g square (entry square p q) p q) → y ≡ run g q (path g square (entry square p q) p q)
-      → Makes g start outs s (record { distance = total; before = count; fault = fault; sent = get_or outs x 0; received = get_or outs y 0 })
-  made_makes {s} outs {x} {y} {total = total} et e ep eq ex ey =
-      subst (λ (z : Series). Makes g start outs z harm) (made_is e)
+      → e.sent ≡ run g p (path g square (entry square p q) p q) → e.received ≡ run g q (path g square (entry square p q) p q)
+      → Makes g start s (record { before = count; fault = fault; ends = e })
+  made_makes {e = e} i ep eq ex ey =
+      subst (λ (z : Series). Makes g start z (record { before = count; fault = fault; ends = e })) (made_is i)
       (record {
-        distance = sym et ∙ distance;
         before = k.is_count;
         fault = refl;
         ranged = k.ranged;
-        sent = rw (ex, ep, eq) (ap (λ (r : ℕ). get_or outs r 0) sent);
-        received = rw (ey, ep, eq) (ap (λ (r : ℕ). get_or outs r 0) received);
+        sent = rw (ex, ep, eq) sent;
+        received = rw (ey, ep, eq) received;
       })
     where
-      harm : Harm
-      harm = record { distance = total; before = count; fault = fault; sent = get_or outs x 0; received = get_or outs y 0 }
-
-      distance : get_or v start 0 ≡ length (sent_trace made)
-      distance =
-          (let x = made_sum in let y = sent_length made in let z = path_length g square apart (run g state step.sent) (run g state step.received) in
-          omega (arith, x, y, z, k.is_count))
-
       sent : run g (run g state step.sent) made.after ≡ run g start (sent_trace made)
       sent = ap (λ (r : ℕ). run g (run g r step.sent) made.after) k.is_state ∙ sym (run_parts g start way step.sent made.after)
 
@@ -169,11 +156,14 @@ module _ {g : Automaton} (ends : ℕ → ℕ → Bool) {set : ℕ} {square costs
 
 -- ---- what a search has found, with what is left on the way
 
-module _ {limit : ℕ} {t : Shape} {set : ℕ} {outs square order depths costs ts : List ℕ} {count : ℕ} {least : Least} {room : ℕ}
-    (r : Ready limit t set outs square order depths costs ts count least room)
-    {v : List ℕ} (way : OnTheWay limit (automaton_in t ts) order depths costs least.total 0 least.visited v) where
-  pub ready_left : get_or v t.start 0 ≡ least.total
-  ready_left = start_left (next_of_rows r.posed.rows) r.posed.squared r.posed.start_in r.searched r.some way
+module _ {s : Search} {set : ℕ} {costs : Costs} {room : ℕ} (r : Ready s set costs room)
+    {v : List ℕ} (way : OnTheWay state_limit (automaton_in s) s.layers.order s.layers.depths costs.costs costs.total 0 costs.visited v) where
+  pub ready_left : get_or v s.table.now.start 0 ≡ costs.total
+  ready_left =
+      let w = s.table.now.sound.well_formed in
+      start_left w.closed r.posed.squared w.start_in r.searched r.some way
 
-  pub ready_finds : Finds (automaton_in t ts) (apart_at_once square) set square costs v t.start
-  ready_finds = search_finds (next_of_rows r.posed.rows) r.posed.squared r.posed.start_in r.searched r.some way
+  pub ready_finds : Finds (automaton_in s) (apart_at_once s.square.now) set s.square.now costs.costs v s.table.now.start
+  ready_finds =
+      let w = s.table.now.sound.well_formed in
+      search_finds w.closed r.posed.squared w.start_in r.searched r.some way

@@ -1,7 +1,7 @@
 -- The first witness of a fault set, over a test of the two readings; and the questions asked before it.
-use Rattle.std.specs.Prelude.{Bool, true, List, [], ◌∷◌, ◌++◌, ℕ, length}
+use Rattle.std.specs.Prelude.{Bool, true, Result, Option as Maybe, Some, None, List, [], ◌∷◌, ◌++◌, ℕ, length}
 use Rattle.std.proofs.Math.Option.{Option, none, some}
-use Rattle.theory.specs.Answer.{Question, Answer, answered, asks}
+use Rattle.theory.specs.Answer.{Question, Answer, asks}
 use Rattle.theory.specs.Automaton.{run}
 use Rattle.theory.specs.Extent.{Extent}
 use Rattle.theory.specs.Monitor.{Monitor, reading}
@@ -9,7 +9,8 @@ use Rattle.theory.specs.Count.{verdict_count}
 use Rattle.theory.specs.Series.{Series, sent_trace, received_trace}
 use Rattle.theory.specs.Distance.{faults_of}
 use Rattle.theory.specs.Computed.{first_harmful}
-use Rattle.basics.specs.Refusals.{refusal}
+use Rattle.basics.specs.declared.refusal.Refusal.{Refusal}
+use Rattle.basics.specs.Refusals.{answer_by}
 use Rattle.monitor.specs.Format.{monitor_of}
 use Rattle.monitor.specs.Questions.{table_questions, question9, question10, question13, question19}
 use Rattle.square.specs.declared.Test.{Test}
@@ -18,8 +19,6 @@ use Rattle.square.specs.Square.{passes}
 use Rattle.faults.specs.Kinds.{bit_of}
 use Rattle.readings.specs.Readings.{counted}
 use Rattle.witness.specs.declared.Witness.{Witness}
-use Rattle.witness.specs.declared.Outcome.{Outcome}
-use Rattle.witness.specs.declared.Outcome.TheVariants.{Refused, None, Found}
 
 -- the values of a witness: 01's six numbers, and two counts
 pub record WitnessFigures : Type 0 where
@@ -107,8 +106,11 @@ witness_answer limit b test set d room =
     asks (table_questions limit b ++ witness_questions test set d (first_by test (monitor_of b) d set) room)
     (figures_by test (monitor_of b) d set)
 
--- 01's number and place of a refusal, or the values of an outcome
-abbrev pub outcome : Outcome → Answer FaultFigures
-outcome (Refused r) = refusal r
-outcome None = answered none
-outcome (Found w) = answered (some (witness_values w))
+-- the values of the witness found, if any
+abbrev pub found_values : Maybe Witness → FaultFigures
+found_values None = none
+found_values (Some w) = some (witness_values w)
+
+-- 01's number and place of a refusal, or the values of what was found
+abbrev pub outcome : Result (Maybe Witness) Refusal → Answer FaultFigures
+outcome r = answer_by found_values r

@@ -13,11 +13,11 @@ use Rattle.theory.proofs.Lists.{each_cut}
 use Rattle.collection.specs.Contents.{number_at, count_of, offset_of, length_of, rule_of, body_of, entry_of, start_of_body}
 use Rattle.collection.specs.Contents.{rises, follows, first_no, entry_limit, collection_answer}
 use Rattle.collection.proofs.Answered.{all_accepted}
-use Rattle.collection.proofs.Entries.{entry_there}
+use Rattle.collection.proofs.Entries.{entry_there, number_drop}
 use Rattle.collection.proofs.Order.{passes_at, all_pass}
 use Rattle.writer.specs.Encoding.{bytes_of, body_start, entry_for, encoding}
 use Rattle.writer.specs.Reading.{HandsBack}
-use Rattle.writer.proofs.Numbers.{Short, number_drop, number_back}
+use Rattle.writer.proofs.Numbers.{Short, number_back}
 use Rattle.writer.proofs.Read.{start_first, start_next}
 
 -- numbers and bodies that a collection can have

@@ -6,8 +6,13 @@ use native.Mathlib.Nat.{add-zero}
 use native.Mathlib.Numerals.{add-one}
 use native.Mathlib.Omega.{arith}
 use lib.ListN.{length, get_or, take, drop, length-take, length-drop}
-use lib.Seq.{take-nil, take-add, take_all, take-length}
+use lib.Seq.{take-add, take_all, take-length}
 use borrow.Author.Tests.{eqb-true, leb-true, le-leb, lt-leb}
+use mathlib.Core.Logic.{⊎_elim}
+use Rattle.std.specs.Prelude.{sum}
+use Rattle.std.proofs.lemmas.List.{get_or_past}
+use Rattle.std.proofs.lemmas.List.Sums.{sum_by_more, sum_by-take-le}
+use Rattle.theory.proofs.Below.{lt_or_le}
 use Rattle.theory.specs.Lists.{each}
 use Rattle.theory.specs.Answer.{Question, refused, answered, asks}
 use Rattle.theory.proofs.Lists.{each_same}
@@ -15,21 +20,21 @@ use Rattle.theory.proofs.Answer.{asks_yes, asks_values, asks_both, asks_other, a
 use Rattle.collection.specs.Contents.{rises, first_no, entry_limit, question21, question23}
 use Rattle.monitor.specs.Questions.{no_values, question13}
 use Rattle.writer.specs.Encoding.{bytes_of, entry_for}
-use Rattle.writer.specs.Writing.{sum, given_rule, given_body, file_of, question27, question28, bodies_questions, given_questions, write_answer}
+use Rattle.writer.specs.Writing.{given_rule, given_body, file_of, question27, question28, bodies_questions, given_questions, write_answer}
 use Rattle.writer.specs.Writing.{TwoByte, Fits, entry_given}
 use Rattle.writer.proofs.Encoded.{Writable, encoding_long}
 
 -- ---- sums
 
 sum_more : (l : List ℕ) (i : ℕ) → sum (take (suc i) l) ≡ sum (take i l) + get_or l i 0
-sum_more [] i = ap sum (sym (take-nil i)) ∙ sym (add-zero (sum (take i [])))
-sum_more (x ∷ l) zero = omega arith
-sum_more (x ∷ l) (suc i) = omega (arith, sum_more l i)
+sum_more l i = rw (← add-one i) (⊎_elim (λ h. sum_by_more (λ x. x) l i 0 h) past (lt_or_le i (length l)))
+  where
+    past : length l ≤ i → sum (take (i + 1) l) ≡ sum (take i l) + get_or l i 0
+    past h =
+        rw (take_all (i + 1) l (omega (arith, h)), take_all i l h, get_or_past l i 0 h) (sym (add-zero (sum l)))
 
 sum_most : (l : List ℕ) (i : ℕ) → sum (take i l) ≤ sum l
-sum_most l zero = omega arith
-sum_most [] (suc i) = omega arith
-sum_most (x ∷ l) (suc i) = omega (arith, sum_most l i)
+sum_most l i = sum_by-take-le (λ x. x) l i
 
 -- s is the sum of the first i lengths and a number more
 pub record Summed (base : ℕ) (lengths : List ℕ) (s i : ℕ) : Type 0 where

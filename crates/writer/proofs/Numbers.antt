@@ -3,25 +3,19 @@ use mathlib.Core.Path.{◌≡◌, refl, sym, ap, ap₂, ◌∙◌}
 use mathlib.Core.List.{List, [], ◌∷◌, ◌++◌}
 use mathlib.Core.Logic.{⊎_elim}
 use Prim.Native.Nat.{ℕ, zero, suc, ◌+◌, ◌*◌, ◌/◌, ◌%◌, ◌≤◌, ◌<◌}
-use native.Mathlib.Nat.{add-zero, add-suc, le_of_suc-le-suc, not-suc-le-zero}
+use native.Mathlib.Nat.{add-zero, le_of_suc-le-suc, not-suc-le-zero}
 use native.Mathlib.Omega.{arith}
 use lib.ListN.{length, get_or, take, drop, length-take, length-drop, take-append-drop, get_or-eq_default}
 use lib.Seq.{get_or-drop, get_or-take, drop-drop, take_all}
 use Rattle.theory.proofs.Below.{lt_or_le}
 use Rattle.collection.specs.Contents.{number_at}
+use Rattle.collection.proofs.Entries.{number_drop}
 use Rattle.writer.specs.Encoding.{bytes_of, entry_bytes}
 use Rattle.writer.specs.Reading.{Bytes}
-
--- ---- a number further on
 
 number_cons : (w x : ℕ) (l : List ℕ) (at : ℕ) → number_at w (x ∷ l) (suc at) ≡ number_at w l at
 number_cons zero x l at = refl
 number_cons (suc w) x l at = ap (λ (n : ℕ). get_or l at 0 + 256 * n) (number_cons w x l (suc at))
-
-pub number_drop : (w m : ℕ) (l : List ℕ) (at : ℕ) → number_at w (drop m l) at ≡ number_at w l (m + at)
-number_drop zero m l at = refl
-number_drop (suc w) m l at =
-    ap₂ (λ (a b : ℕ). a + 256 * b) (get_or-drop m l at 0) (number_drop w m l (suc at) ∙ ap (number_at w l) (add-suc m at))
 
 -- ---- from the bytes to the number
 

@@ -1,12 +1,12 @@
 -- Bytes put into an area from a place on.
 use mathlib.Core.Path.{◌≡◌, refl, sym, ap, ap₂, ◌∙◌}
 use mathlib.Core.List.{List, [], ◌∷◌, ◌++◌, append_assoc, append-nil}
-use Prim.Native.Nat.{ℕ, suc, ◌+◌, ◌*◌, ◌-◌, ◌/◌, ◌%◌, ◌≤◌, ◌<◌}
-use native.Mathlib.Nat.{add-zero, le_of_eq}
+use Prim.Native.Nat.{ℕ, suc, ◌+◌, ◌*◌, ◌-◌, ◌≤◌, ◌<◌}
+use native.Mathlib.Nat.{zero-add, le_of_eq}
 use native.Mathlib.Numerals.{add-one}
 use native.Mathlib.Omega.{arith}
-use lib.ListN.{length, get_or, take, drop, set, length-set, length-append, length-drop, drop_of_length-le}
-use lib.Seq.{sets, length-sets, sets-eq, take_at, drop_at, drop-drop, take_all}
+use lib.ListN.{length, get_or, take, drop, set, length-append, length-drop, drop_of_length-le}
+use lib.Seq.{sets, length-sets, sets-eq, drop-drop, take_all}
 use Rattle.theory.specs.Lists.{each}
 use Rattle.writer.specs.Encoding.{bytes_of, entry_bytes}
 use Rattle.writer.specs.Writing.{file_of, Fits, entry_given}
@@ -18,47 +18,19 @@ sets_behind : (s t l : List ℕ) (at : ℕ) {from : ℕ} → at + length s ≡ f
 sets_behind [] t l at {from} e = (let z : from ≡ at = omega (arith, e) in ap (λ (i : ℕ). sets l i t) z)
 sets_behind (a ∷ s) t l at e = sets_behind s t (set l at a) (suc at) (omega (arith, e))
 
--- ---- the bytes of a number
-
--- i bytes are put; those of what is left of the number come next
-pub record Putting (n width : ℕ) (before : List ℕ) (at : ℕ) (after : List ℕ) (rest i : ℕ) : Type 0 where
-  pub same : length after ≡ length before
-  pub left : sets after (at + i) (bytes_of (width - i) rest) ≡ sets before at (bytes_of width n)
-
-pub put_begins : (n width : ℕ) (before : List ℕ) (at : ℕ) → Putting n width before at before n 0
-put_begins n width before at = record {
-  same = refl;
-  left = (let e : width - 0 ≡ width = omega arith in ap₂ (λ (i w : ℕ). sets before i (bytes_of w n)) (add-zero at) e);
-}
-
-pub put_goes_on : {n width : ℕ} {before : List ℕ} {at : ℕ} {after : List ℕ} {rest i : ℕ} → Putting n width before at after rest i → i < width
-    → Putting n width before at (set after (at + i) (rest % 256)) (rest / 256) (i + 1)
-put_goes_on {n} {width} {before} {at} {after} {rest} {i} p h = record {
-  same = length-set after (at + i) (rest % 256) ∙ p.same;
-  left =
-      (let next : at + (i + 1) ≡ suc (at + i) = omega arith in
-      let w : width - i ≡ suc (width - (i + 1)) = omega (arith, h) in
-      ap (λ (j : ℕ). sets (set after (at + i) (rest % 256)) j (bytes_of (width - (i + 1)) (rest / 256))) next
-      ∙ ap (λ (j : ℕ). sets after (at + i) (bytes_of j rest)) (sym w)
-      ∙ p.left);
-}
-
-pub put_ends : {n width : ℕ} {before : List ℕ} {at : ℕ} {after : List ℕ} {rest i : ℕ} → Putting n width before at after rest i → width ≤ i
-    → after ≡ sets before at (bytes_of width n)
-put_ends {width = width} {at = at} {after = after} {rest = rest} {i = i} p h =
-    let w : width - i ≡ 0 = omega (arith, h) in
-    ap (λ (j : ℕ). sets after (at + i) (bytes_of j rest)) (sym w) ∙ p.left
-
--- ---- an entry
-
-pub entry_put : (offset size rule : ℕ) (l₀ l₁ l₂ l₃ : List ℕ) (at : ℕ) → l₁ ≡ sets l₀ at (bytes_of 4 offset) → l₂ ≡ sets l₁ (at + 4) (bytes_of 2 size)
-    → l₃ ≡ sets l₂ (at + 6) (bytes_of 2 rule) → l₃ ≡ sets l₀ at (entry_bytes offset size rule)
-entry_put offset size rule l₀ l₁ l₂ l₃ at e f g =
-    g
-    ∙ ap (λ (l : List ℕ). sets l (at + 6) (bytes_of 2 rule)) f
-    ∙ sets_behind (bytes_of 2 size) (bytes_of 2 rule) l₁ (at + 4) (omega arith)
-    ∙ ap (λ (l : List ℕ). sets l (at + 4) (bytes_of 2 size ++ bytes_of 2 rule)) e
-    ∙ sets_behind (bytes_of 4 offset) (bytes_of 2 size ++ bytes_of 2 rule) l₀ at (omega arith)
+-- bytes copied into all that stands behind a place
+pub put_at : (bytes l : List ℕ) (at : ℕ) {out : List ℕ} → at + length bytes ≤ length l
+    → (let k = length l - at in
+    out ≡ bytes ++ drop (length bytes) (take k (drop at l)) → take at l ++ (out ++ drop k (drop at l)) ≡ sets l at bytes)
+put_at bytes l at {out} room e =
+    let k = length l - at in
+    let long : length (drop at l) ≤ k = le_of_eq (length-drop at l) in
+    ap₂ (λ (x y : List ℕ). take at l ++ (x ++ y)) e (drop_of_length-le (drop at l) long)
+    ∙ ap₂ (λ (x : List ℕ) (y : List ℕ). take at l ++ y) e (append-nil _)
+    ∙ ap (λ (y : List ℕ). take at l ++ (bytes ++ drop (length bytes) y)) (take_all k (drop at l) long)
+    ∙ ap (λ (y : List ℕ). take at l ++ (bytes ++ y)) (drop-drop (length bytes) at l)
+    ∙ sym (append_assoc (take at l) bytes (drop (at + length bytes) l))
+    ∙ sym (sets-eq bytes l at room)
 
 -- ---- the entries
 
@@ -95,8 +67,7 @@ module _ {rules lengths before after : List ℕ} {offset i : ℕ} (p : Entered r
 
 -- ---- the file
 
-module _ {rules lengths bodies : List ℕ} (f : Fits rules lengths bodies) (l₀ l₁ l₂ : List ℕ) (room : 2 + 8 * length rules + length bodies ≤ length l₀)
-    (e : l₁ ≡ sets l₀ 0 (bytes_of 2 (length rules))) (g : l₂ ≡ sets l₁ 2 (each (length rules) (entry_given rules lengths))) where
+module _ {rules lengths bodies : List ℕ} (f : Fits rules lengths bodies) (l₀ : List ℕ) (room : 2 + 8 * length rules + length bodies ≤ length l₀) where
   abbrev contents : List ℕ
   contents = bytes_of 2 (length rules) ++ each (length rules) (entry_given rules lengths)
 
@@ -105,32 +76,18 @@ module _ {rules lengths bodies : List ℕ} (f : Fits rules lengths bodies) (l₀
       length-append (bytes_of 2 (length rules)) (each (length rules) (entry_given rules lengths))
       ∙ omega (arith, entries_long (length rules) (entry_given rules lengths) (λ j. refl))
 
-  contents_put : l₂ ≡ contents ++ drop (2 + 8 * length rules) l₀
-  contents_put =
-      let long : 0 + length contents ≡ 2 + 8 * length rules = omega (arith, contents_long) in
-      g
-      ∙ ap (λ (l : List ℕ). sets l 2 (each (length rules) (entry_given rules lengths))) e
-      ∙ sets_behind (bytes_of 2 (length rules)) (each (length rules) (entry_given rules lengths)) l₀ 0 refl
-      ∙ sets-eq contents l₀ 0 (omega (arith, contents_long, room))
-      ∙ ap (λ (n : ℕ). contents ++ drop n l₀) long
-
-  -- the bodies are copied into all that stands behind the contents
-  pub file_put : {out : List ℕ}
-      → (let m = 2 + 8 * length rules in let k = length l₂ - m in
-      out ≡ bodies ++ drop (length bodies) (take k (drop m l₂))
-      → take m l₂ ++ (out ++ drop k (drop m l₂)) ≡ file_of rules lengths bodies ++ drop (length (file_of rules lengths bodies)) l₀)
-  file_put {out} h =
-      let m = 2 + 8 * length rules in
-      let k = length l₂ - m in
-      let long : length (drop m l₂) ≤ k = le_of_eq (length-drop m l₂) in
-      let front : take m l₂ ≡ contents = ap (take m) contents_put ∙ take_at contents (drop m l₀) m contents_long in
-      let back : drop m l₂ ≡ drop m l₀ = ap (drop m) contents_put ∙ drop_at contents (drop m l₀) m contents_long in
-      let rest : drop (length bodies) (take k (drop m l₂)) ≡ drop (length (file_of rules lengths bodies)) l₀ =
-      ap (drop (length bodies)) (take_all k (drop m l₂) long ∙ back)
-      ∙ drop-drop (length bodies) m l₀
-      ∙ ap (λ (n : ℕ). drop n l₀) (sym (file_long f)) in
-      let copied = h ∙ ap (λ (y : List ℕ). bodies ++ y) rest in
-      ap₂ (λ (x y : List ℕ). x ++ (out ++ y)) front (drop_of_length-le (drop m l₂) long)
-      ∙ ap (λ (l : List ℕ). contents ++ l) (append-nil out ∙ copied)
-      ∙ sym (append_assoc contents bodies (drop (length (file_of rules lengths bodies)) l₀))
-      ∙ ap (λ (l : List ℕ). l ++ drop (length (file_of rules lengths bodies)) l₀) (sym (file_is f))
+  -- the count is put, then the entries, then the bodies
+  pub file_put : {l₁ l₂ l₃ : List ℕ} → l₁ ≡ sets l₀ 0 (bytes_of 2 (length rules)) → l₂ ≡ sets l₁ 2 (each (length rules) (entry_given rules lengths))
+      → l₃ ≡ sets l₂ (2 + 8 * length rules) bodies
+      → l₃ ≡ file_of rules lengths bodies ++ drop (length (file_of rules lengths bodies)) l₀
+  file_put e g h =
+      let file = file_of rules lengths bodies in
+      let last : sets l₀ 0 (contents ++ bodies) ≡ file ++ drop (length file) l₀ =
+      ap (sets l₀ 0) (sym (file_is f))
+      ∙ sets-eq file l₀ 0 (omega (arith, file_long f, room))
+      ∙ ap (λ (n : ℕ). file ++ drop n l₀) (zero-add (length file)) in
+      h
+      ∙ ap (λ (l : List ℕ). sets l (2 + 8 * length rules) bodies) (g ∙ ap (λ (l : List ℕ). sets l 2 (each (length rules) (entry_given rules lengths))) e
+      ∙ sets_behind (bytes_of 2 (length rules)) (each (length rules) (entry_given rules lengths)) l₀ 0 refl)
+      ∙ sets_behind contents bodies l₀ 0 (omega (arith, contents_long))
+      ∙ last

@@ -28,7 +28,8 @@ module _ (file : List ℕ) (c : ℕ) (body : ℕ → List ℕ) where
   unfolding each
   start_first e = sym (starts_first file 0 (sym e) refl) ∙ omega arith
 
-  pub start_next : (i : ℕ) → offset_of file i ≡ body_start c body i → length_of file i ≡ length (body i) → start_of_body file (suc i) ≡ body_start c body (suc i)
+  pub start_next : (i : ℕ) → offset_of file i ≡ body_start c body i → length_of file i ≡ length (body i)
+      → start_of_body file (suc i) ≡ body_start c body (suc i)
   unfolding each
   start_next i o l =
       ap (start_of_body file) (sym (add-one i)) ∙ next_start file i ∙ omega (arith, o, l, length-append (each i body) (body i))

@@ -1,5 +1,6 @@
 -- What is handed to the writer, the questions asked of it, and the file that it stands for.
-use Rattle.std.specs.Prelude.{◌≡◌, List, [], ◌∷◌, ◌++◌, map, ℕ, ◌+◌, ◌*◌, ◌≤◌, ◌<◌, length, get_or, take, drop, eqb}
+use Rattle.std.specs.Prelude.{◌≡◌, List, [], ◌∷◌, ◌++◌, map, ℕ, ◌+◌, ◌*◌, ◌≤◌, ◌<◌, length, get_or, take, drop, sum}
+use Rattle.std.specs.Prelude.{eqb}
 use Rattle.theory.specs.Lists.{each}
 use Rattle.theory.specs.Answer.{Question, Answer, asks}
 use Rattle.monitor.specs.Questions.{table_questions, question13}
@@ -9,11 +10,6 @@ use Rattle.writer.specs.Encoding.{entry_bytes, encoding}
 -- what `write` takes, a list of two-byte numbers: every number of it is below 65,536
 abbrev pub TwoByte : List ℕ → Type 0
 TwoByte l = (i : ℕ) → get_or l i 0 < 65536
-
--- "lengths that sum"
-abbrev pub sum : List ℕ → ℕ
-sum [] = 0
-sum (x ∷ xs) = x + sum xs
 
 -- "a list of rule numbers": that of entry i
 abbrev pub given_rule : List ℕ → ℕ → ℕ

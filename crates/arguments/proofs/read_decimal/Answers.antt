@@ -3,14 +3,14 @@ use Rattle.arguments.proofs.Reading.{reads_empty, reads_digit, reads_other, read
 use Rattle.std.proofs.Common.{arith}
 use Rattle.arguments.proofs.read_decimal.Goals as goal
 
-pub returns-then-text-eq0 : goal.returns-then-text-eq0
-returns-then-text-eq0 c = reads_empty _ c.if-text-eq0.true
+pub returns-then-is_empty : goal.returns-then-is_empty
+returns-then-is_empty c = reads_empty _ (grind arith)
 
-pub returns-then-not-is_digit : goal.returns-then-not-is_digit
-returns-then-not-is_digit c = reads_other c.loop-i.invariant c.loop-i-test.true (cc)
+pub returns-then-not-is_ascii_digit : goal.returns-then-not-is_ascii_digit
+returns-then-not-is_ascii_digit c = reads_other c.loop-byte.invariant c.loop-byte-test.true (cc)
 
-pub loop-i-preserved : goal.loop-i-preserved
-loop-i-preserved c = reads_digit c.loop-i.invariant c.loop-i-test.true (cc) c.least_of-number.ensures
+pub loop-byte-preserved : goal.loop-byte-preserved
+loop-byte-preserved c = reads_digit c.loop-byte.invariant c.loop-byte-test.true (cc) c.least_of-number.ensures
 
 pub returns : goal.returns
-returns c = reads_all c.loop-i.invariant (omega arith) c.loop-i-test.false
+returns c = reads_all c.loop-byte.invariant (grind arith) c.loop-byte-test.false

@@ -1,37 +1,27 @@
--- `check` meets its contract.
-use mathlib.Core.Path.{sym, ◌∙◌}
+-- `check` meets its contract: a body that is not opened is refused, and one that is, answers by its table.
+use Rattle.std.proofs.Common.{refl, ◌∙◌}
+use Rattle.std.specs.Prelude.{Ok, Err}
 use Rattle.theory.specs.Monitor.{state_limit}
+use Rattle.basics.proofs.Refusals.{handed_back}
 use Rattle.monitor.specs.Format.{monitor_of}
 use Rattle.monitor.specs.Questions.{no_values}
-use Rattle.monitor.proofs.Accepted.{refused_asks}
-use Rattle.opening.proofs.Handing.{opened_no, opened_yes, marks_counted, marks_lie, table_handed, opened_asks}
+use Rattle.opening.proofs.Handing.{no_asks, table_asks}
 use Rattle.certificate.specs.Questions.{certificate_questions, certificate_answer}
 use Rattle.certificate.proofs.check.Goals as goal
 
-pub slice_bounds-marks-end : goal.slice_bounds-marks-end
-slice_bounds-marks-end c = marks_lie (opened_yes state_limit _ _ c.«open».ensures c.in-Table.is)
-
-pub slice_bounds-check_table-end : goal.slice_bounds-check_table-end
-slice_bounds-check_table-end c =
-    marks_counted (opened_yes state_limit _ _ c.«open».ensures c.in-Table.is)
-
-pub check_table-requires : goal.check_table-requires
-check_table-requires c =
-    table_handed (opened_yes state_limit _ _ c.«open».ensures c.in-Table.is)
-    c.next_states.ensures
-
-pub returns-in-Refused : goal.returns-in-Refused
+pub returns-in_err-table : goal.returns-in_err-table
 unfolding certificate_answer
-returns-in-Refused c =
+returns-in_err-table c =
     let a = c.args in
-    let b = a.body.now in
-    sym (refused_asks state_limit b (certificate_questions a.set a.domain a.blocks.now (monitor_of b)) no_values
-    (opened_no state_limit b _ c.«open».ensures c.in-Refused.is))
+    let x = c.in_err-table.field-0.0 in
+    handed_back _ c.from_residual.result _ c.from_residual.ensures.1
+    ∙ no_asks state_limit a.body.now (Err x) c.in_err-table.ensures x refl
+    (certificate_questions a.set a.domain a.numbers.now (monitor_of a.body.now)) no_values
 
-pub returns-in-Table : goal.returns-in-Table
+pub returns : goal.returns
 unfolding certificate_answer
-returns-in-Table c =
+returns c =
     let a = c.args in
-    let h = opened_yes state_limit _ _ c.«open».ensures
-    c.in-Table.is in
-    c.check_table.ensures ∙ opened_asks h c.next_states.ensures (certificate_questions a.set a.domain a.blocks.now) (λ m. no_values)
+    let t = c.in_ok-table.table in
+    c.check_table.ensures
+    ∙ table_asks state_limit a.body.now (Ok t) c.in_ok-table.ensures t refl (certificate_questions a.set a.domain a.numbers.now) (λ m. no_values)

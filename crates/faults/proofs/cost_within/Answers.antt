@@ -5,5 +5,5 @@ use Rattle.faults.proofs.cost_within.Goals as goal
 
 pub returns : goal.returns
 returns c =
-    let a = c.args in
-    cheapest_same (set_held a.set.bits a.k) (held_set a.set.bits a.k) c.least_with.ensures
+    let k = c.args.graph.now.symbols in
+    cheapest_same (set_held c.args.set.bits k) (held_set c.args.set.bits k) c.least_with.ensures

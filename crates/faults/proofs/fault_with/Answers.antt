@@ -1,22 +1,17 @@
--- `fault_with` meets its contract: no step before the cursor costs this, and some step does.
-use Rattle.faults.proofs.Found.{cost_begins, cost_goes_on, cost_found}
+-- `fault_with` meets its contract: no step before those that are left costs this, and some step does.
+use mathlib.Core.Path.{◌∙◌}
+use Rattle.faults.proofs.Found.{seek_finds, seek_on, seek_ends}
 use Rattle.faults.proofs.fault_with.Goals as goal
 
-pub loop-set-init : goal.loop-set-init
-loop-set-init c =
-    let begun = c.begin-at.ensures in
-    cost_begins c.args.set.bits c.args.k c.requires.attained c.begin-at.result begun.rest begun.placed
+pub returns-then-cost_of-cost-clause-first : goal.returns-then-cost_of-cost-clause-first
+returns-then-cost_of-cost-clause-first c =
+    seek_finds c.loop-fault.invariant.1 c.in-Some.ensures.steps.0 c.cost_of.ensures c.if-cost_of-cost.true
 
-pub loop-set-preserved : goal.loop-set-preserved
-loop-set-preserved c =
-    cost_goes_on c.args.set.bits c.args.k c.requires.attained c.loop-set.invariant
-    c.cost_of.ensures c.step.ensures.step c.loop-set-test.true
-    c.next-at.result c.next-at.ensures.rest c.next-at.ensures.placed
+pub loop-fault-preserved : goal.loop-fault-preserved
+loop-fault-preserved c = (
+  c.in-Some.ensures.steps.2 ∙ c.loop-fault.invariant.0,
+  seek_on c.loop-fault.invariant.1 c.in-Some.ensures.steps.0 c.cost_of.ensures c.if-cost_of-cost.false,
+)
 
-pub returns : goal.returns
-returns c =
-    let here = c.loop-set.invariant in record {
-      first = cost_found c.args.set.bits c.args.k c.requires.attained here
-          c.cost_of.ensures c.step.ensures.step c.loop-set-test.false c.step-2.ensures.step;
-      ranged = c.step-2.ensures.ranged c.args.k here.placed;
-    }
+pub unreachable-requires : goal.unreachable-requires
+unreachable-requires c = seek_ends c.loop-fault.invariant.1 c.in-None.ensures.steps.0 c.requires.attained

@@ -1,30 +1,20 @@
--- `column_of` meets its contract.
-use mathlib.Core.Path.{◌∙◌}
-use Rattle.monitor.specs.Opening.{monitor_in}
-use Rattle.square.specs.declared.Test.TheVariants.{Differ}
-use Rattle.faults.proofs.ByKind.{ranked}
-use Rattle.faults.proofs.Looks.{suited}
-use Rattle.witness.specs.Search.{automaton_in}
-use Rattle.witness.proofs.Tables.{table_posed}
-use Rattle.immunity.proofs.Marks.{marks_answer, alone}
+-- `column_of` meets its contract: the area holds every witness, so that the search is no refusal.
+use mathlib.Core.Path.{◌≡◌, ◌∙◌}
+use Rattle.theory.specs.Answer.{answered}
+use Rattle.witness.specs.Figures.{outcome}
+use Rattle.witness.specs.Search.{monitor_in}
+use Rattle.immunity.specs.Findings.{table_figures}
+use Rattle.immunity.proofs.Marks.{marks_answer, outcome_ok, outcome_values, alone}
+use Rattle.immunity.proofs.column_of.Goals.{After-find_first}
 use Rattle.immunity.proofs.column_of.Goals as goal
 
-pub find_first-found-requires : goal.find_first-found-requires
-find_first-found-requires c =
-    let a = c.args in
-    let p = c.requires in (
-      p.0,
-      table_posed p.0 p.0.rows Differ p.0.marks_length p.1,
-      suited (automaton_in a.t a.nexts.now) Differ a.marks.now a.square.now p.1,
-      p.2,
-    )
+answers : (c : After-find_first) → outcome c.find_first.result ≡ answered (table_figures (monitor_in c.args.search.now) 3 c.with-set.result.bits)
+answers c = marks_answer c.requires.0 c.with-set.result.bits _ c.requires.1 c.find_first.ensures.figures
+
+pub unwrap-requires : goal.unwrap-requires
+unwrap-requires c = outcome_ok _ _ (answers (goal.at.unwrap-requires c).After-find_first)
 
 pub returns : goal.returns
 returns c =
-    let a = c.args in
-    let set = c.with-set in
-    let kind = c.kind_at in
-    let said = c.finding_of.ensures ∙ c.find_first-found.ensures.figures in
-    let found = marks_answer c.requires.0 set.result.bits _ a.square.now c.requires.1 c.requires.4 said in
-    let none = c.empty.ensures in
-    alone (monitor_in a.t a.marks a.nexts) a.rank kind.result (ranked kind.ensures c.requires.3) none set.ensures found
+    outcome_values _ _ c.unwrap.result c.unwrap.ensures (answers (goal.at.returns c).After-find_first)
+    ∙ alone (monitor_in c.args.search.now) c.args.kind c.empty.ensures c.with-set.ensures

@@ -1,11 +1,8 @@
 -- `examine_in` meets its contract: the first witness of the test that the readings differ.
-use mathlib.Core.Path.{◌∙◌}
 use Rattle.witness.specs.Figures.{witness_answer}
 use Rattle.immunity.specs.Findings.{fault_answer}
 use Rattle.immunity.proofs.examine_in.Goals as goal
 
 pub returns : goal.returns
 unfolding fault_answer witness_answer
-returns c =
-    let w = c.first_witness_in.ensures in
-    record { figures = c.finding_of.ensures ∙ w.figures; area = w.area }
+returns c = c.first_witness_in.ensures

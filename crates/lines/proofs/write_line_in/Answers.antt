@@ -1,18 +1,24 @@
--- `write_line_in` meets its contract.
-use mathlib.Core.Path.{sym, ◌∙◌}
-use Rattle.theory.proofs.Answer.{untouched}
-use Rattle.lines.proofs.Shown.{line_refused, line_fits, line_written}
+-- `write_line_in` meets its contract: the text is the line, written if it fits.
+use Rattle.std.proofs.Common.{◌≡◌, ◌∙◌, ap, List, ℕ, ◌++◌, length}
+use Rattle.theory.specs.Answer.{written}
+use Rattle.theory.specs.Monitor.{state_limit}
+use Rattle.text.specs.Text.{text_answer}
+use Rattle.lines.specs.Line.{rule_line, line_answer}
+use Rattle.lines.proofs.write_line_in.Goals.{After-push_line}
 use Rattle.lines.proofs.write_line_in.Goals as goal
 
-pub returns-then-area-length : goal.returns-then-area-length
-returns-then-area-length c =
-    let area = c.args.area.now in
-    let e = line_refused _ _ _ c.put_rule-length.ensures area c.if-area-length.true in
-    record { figures = e; area = untouched _ area (sym e) }
+-- the text that is put together is the line
+line : (c : After-push_line) → c.push_line.new.text ≡ rule_line state_limit c.args.rule c.args.body.now
+line c = c.push_line.ensures ∙ ap (λ (l : List ℕ). l ++ rule_line state_limit c.args.rule c.args.body.now) c.new-text.ensures
 
-pub returns : goal.returns
-returns c =
-    let p = c.put_rule-length.ensures in
-    let area = c.args.area.now in
-    let fits = c.if-area-length.false in
-    record { figures = line_fits _ _ _ p area fits; area = c.copy.ensures ∙ line_written _ _ _ p area fits }
+pub returns-clause-figures : goal.returns-clause-figures
+unfolding line_answer
+returns-clause-figures c =
+    c.write.ensures.figures
+    ∙ ap (λ (text : List ℕ). text_answer text (length c.args.area.now)) (line (goal.at.returns-clause-figures c).After-push_line)
+
+pub returns-clause-area : goal.returns-clause-area
+unfolding line_answer
+returns-clause-area c =
+    c.write.ensures.area
+    ∙ ap (λ (text : List ℕ). written (text_answer text (length c.args.area.now)) text c.args.area.now) (line (goal.at.returns-clause-area c).After-push_line)

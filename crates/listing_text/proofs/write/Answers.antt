@@ -1,21 +1,15 @@
--- `write` meets its contract.
-use mathlib.Core.Path.{sym, ◌∙◌}
-use Rattle.theory.proofs.Answer.{untouched}
-use Rattle.lines.proofs.Copied.{text_refused, text_fits, text_written}
+-- `write` meets its contract: the text of the listing is written if it fits.
+use Rattle.std.proofs.Common.{◌∙◌, ap, List, ℕ, length}
+use Rattle.theory.specs.Answer.{written}
+use Rattle.text.specs.Text.{text_answer}
 use Rattle.listing_text.specs.Listing.{listing_answer}
 use Rattle.listing_text.proofs.write.Goals as goal
 
-pub returns-then-area-length : goal.returns-then-area-length
+pub returns-clause-figures : goal.returns-clause-figures
 unfolding listing_answer
-returns-then-area-length c =
-    let area = c.args.area.now in
-    let e = text_refused c.put_listing-length.ensures area c.if-area-length.true in
-    record { figures = e; area = untouched _ area (sym e) }
+returns-clause-figures c = c.write.ensures.figures ∙ ap (λ (text : List ℕ). text_answer text (length c.args.area.now)) c.push_listing.ensures
 
-pub returns : goal.returns
+pub returns-clause-area : goal.returns-clause-area
 unfolding listing_answer
-returns c =
-    let p = c.put_listing-length.ensures in
-    let area = c.args.area.now in
-    let fits = c.if-area-length.false in
-    record { figures = text_fits p area fits; area = c.copy.ensures ∙ text_written p area fits }
+returns-clause-area c =
+    c.write.ensures.area ∙ ap (λ (text : List ℕ). written (text_answer text (length c.args.area.now)) text c.args.area.now) c.push_listing.ensures

@@ -1,14 +1,8 @@
--- `all_lead_to` meets its contract: a symbol that leads elsewhere was not found yet.
-use mathlib.Core.Bool.{not}
-use mathlib.Core.Path.{ap}
-use borrow.Author.Tests.{ne_eqb}
-use Rattle.theory.proofs.Scan.{scan_some, scan_none}
+-- `all_lead_to` meets its contract: no symbol leads to a state with another mark.
+use Rattle.std.proofs.Common.{ap, not, eqb, rules}
+use Rattle.monitor.specs.Graph.{automaton}
+use Rattle.opening.specs.Marks.{mark_in}
 use Rattle.opening.proofs.all_lead_to.Goals as goal
 
-pub returns-then-marks-successor : goal.returns-then-marks-successor
-returns-then-marks-successor c =
-    ap not (scan_some c.loop-a.invariant c.loop-a-test.true
-    (rw (← c.successor.ensures.next, ne_eqb _ _ c.if-marks-successor.true)))
-
 pub returns : goal.returns
-returns c = ap not (scan_none c.loop-a.invariant c.loop-a-test.false)
+returns c = ap not (c.any_below.ensures (λ a. not (eqb (mark_in c.args.marks.now ((automaton c.args.graph.now).next c.args.q a)) c.args.mark)) (λ i b l e. search rules))

@@ -1,12 +1,29 @@
--- `enter_by_pairs` meets its contract: the sets are empty, and there is room for n states.
-use Prim.Native.Nat.{◌*◌}
+-- `enter_by_pairs` meets its contract: the sets are empty, and every row is active.
+use borrow.Author.Rules.{rules}
+use mathlib.Core.Path.{◌≡◌, refl}
+use mathlib.Core.List.{[], ◌∷◌}
+use Prim.Native.Nat.{ℕ, zero, suc, ◌^◌, ◌-◌, ◌<◌}
 use native.Mathlib.Omega.{arith}
-use Rattle.theory.specs.Monitor.{state_limit}
-use Rattle.pairs.proofs.Sets.{unused_sets}
+use lib.ListN.{get_or}
+use Rattle.rows.proofs.Gather.{empty_sets}
 use Rattle.pairs.proofs.enter_by_pairs.Goals as goal
+
+full : (word i : ℕ) → i < 4 → get_or (word ∷ word ∷ word ∷ word ∷ []) i 0 ≡ word
+full word zero l = refl
+full word (suc zero) l = refl
+full word (suc (suc zero)) l = refl
+full word (suc (suc (suc zero))) l = refl
+full word (suc (suc (suc (suc i)))) l = absurd (omega arith)
 
 pub enter_rounds-requires : goal.enter_rounds-requires
 enter_rounds-requires c =
-    let p = c.requires in
-    let l = p.2.states_most in
-    (p.0, unused_sets (state_limit * 2) (omega (arith, l)) p.1, p.2, p.3)
+    let e = c.enter-predecessors.ensures in
+    let g = c.args.graph.now in
+    let few = g.rows.states_most in
+    rw e (
+      record { blank = c.requires.0; alike_none = empty_sets g.states 256 (omega (arith, few)); active_all = full (2 ^ 64 - 1) },
+      c.requires.1,
+    )
+
+pub returns : goal.returns
+returns c = (let s = rw c.enter-predecessors.ensures at c.enter_rounds.ensures.squared in search (rules, s))

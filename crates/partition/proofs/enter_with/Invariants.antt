@@ -1,17 +1,11 @@
 -- `enter_with` meets its contract: what is left to be entered makes the whole.
-use mathlib.Core.Path.{◌≡◌}
-use mathlib.Core.Bool.{true}
-use Prim.Native.Nat.{ℕ}
 use lib.Dec.{eqb}
-use Rattle.state_set.specs.Member.{in_part}
+use Rattle.state_set.specs.Member.{member}
 use Rattle.partition.specs.Blocks.{between}
 use Rattle.partition.proofs.Stores.{Entering}
 use Rattle.partition.proofs.enter_with.Given as goal
 
-abbrev pub invariant-loop-left : goal.invariant-loop-left
-invariant-loop-left l =
-    Entering l.n l.initial.square (between (λ x. eqb x l.p) (in_part l.w l.word)) l.d l.square (between (λ x. eqb x l.p) (in_part l.w l.left))
-    × ((q : ℕ) → in_part l.w l.left q ≡ true → in_part l.w l.word q ≡ true)
-
-abbrev pub decreases-loop-left : goal.decreases-loop-left
-decreases-loop-left l = l.left
+abbrev pub invariant-loop-q : goal.invariant-loop-q
+invariant-loop-q l =
+    Entering l.initial.square (between (λ x. eqb x l.p) (member l.fn.others)) l.d l.square
+    (between (λ x. eqb x l.p) (member l.q-iterator.left))

@@ -5,16 +5,14 @@ use Rattle.rows.proofs.Visit.{empty_none, empty_some}
 use Rattle.pass.proofs.First.{row_quiet, row_fresh}
 use Rattle.pass.proofs.end_row.Goals as goal
 
-pub returns-then-is_empty : goal.returns-then-is_empty
-returns-then-is_empty c =
-    λ n all.
-    row_quiet n _ c.requires.0 c.read-apart.ensures
+pub returns-then-is_empty-clause-done : goal.returns-then-is_empty-clause-done
+returns-then-is_empty-clause-done c = λ n all.
+    row_quiet n _ c.requires c.read-apart.ensures
     (λ q. c.without.ensures q ∙ rw (c.minus.ensures q, all q)) c.write.ensures
     (empty_none state_limit _ c.is_empty.ensures c.if-is_empty.true)
 
-pub returns : goal.returns
-returns c =
-    λ n all.
-    row_fresh n _ c.requires.0 c.read-apart.ensures
+pub returns-clause-done : goal.returns-clause-done
+returns-clause-done c = λ n all.
+    row_fresh n _ c.requires c.read-apart.ensures
     (λ q. c.without.ensures q ∙ rw (c.minus.ensures q, all q)) c.write.ensures
-    (empty_some state_limit _ c.is_empty.ensures c.if-is_empty.false) c.with.ensures
+    (empty_some state_limit _ c.is_empty.ensures c.if-is_empty.false) c.with-fresh.ensures

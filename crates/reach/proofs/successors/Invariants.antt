@@ -1,14 +1,11 @@
 -- `successors` meets its contract: the set holds what the symbols passed lead to.
 use mathlib.Core.Path.{◌≡◌}
-use Prim.Native.Nat.{ℕ, ◌≤◌, ◌-◌}
+use Prim.Native.Nat.{ℕ}
 use Rattle.theory.specs.Below.{any}
 use Rattle.state_set.specs.Member.{member}
-use Rattle.monitor.specs.Format.{automaton_of}
+use Rattle.monitor.specs.Graph.{automaton}
 use Rattle.reach.specs.Closure.{leads_to}
 use Rattle.reach.proofs.successors.Given as goal
 
 abbrev pub invariant-loop-a : goal.invariant-loop-a
-invariant-loop-a l = (l.a ≤ l.k) × ((p : ℕ) → member l.set p ≡ any l.a (leads_to (automaton_of l.n l.k l.nexts) l.q p))
-
-abbrev pub decreases-loop-a : goal.decreases-loop-a
-decreases-loop-a l = l.k - l.a
+invariant-loop-a l = (p : ℕ) → member l.set p ≡ any l.a (leads_to (automaton l.graph) l.q p)

@@ -1,37 +1,27 @@
--- `step` meets its contract.
-use mathlib.Core.Path.{sym, ◌∙◌}
+-- `step` meets its contract: a body that is not opened is refused, and one that is, answers by its table.
+use Rattle.std.proofs.Common.{refl, ◌∙◌}
+use Rattle.std.specs.Prelude.{Ok, Err}
 use Rattle.theory.specs.Monitor.{state_limit}
+use Rattle.basics.proofs.Refusals.{handed_back}
 use Rattle.monitor.specs.Format.{monitor_of}
-use Rattle.monitor.proofs.Accepted.{refused_asks}
-use Rattle.opening.proofs.Handing.{opened_no, opened_yes, marks_counted, marks_lie, table_handed, opened_asks}
+use Rattle.opening.proofs.Handing.{no_asks, table_asks}
 use Rattle.readings.specs.Readings.{step_questions, step_figures, step_answer}
 use Rattle.readings.proofs.step.Goals as goal
 
-pub slice_bounds-marks-end : goal.slice_bounds-marks-end
-slice_bounds-marks-end c = marks_lie (opened_yes state_limit _ _ c.«open».ensures c.in-Table.is)
-
-pub slice_bounds-step_table-end : goal.slice_bounds-step_table-end
-slice_bounds-step_table-end c =
-    marks_counted (opened_yes state_limit _ _ c.«open».ensures c.in-Table.is)
-
-pub step_table-requires : goal.step_table-requires
-step_table-requires c =
-    table_handed (opened_yes state_limit _ _ c.«open».ensures c.in-Table.is)
-    c.next_states.ensures
-
-pub returns-in-Refused : goal.returns-in-Refused
+pub returns-in_err-table : goal.returns-in_err-table
 unfolding step_answer
-returns-in-Refused c =
+returns-in_err-table c =
     let a = c.args in
     let m = monitor_of a.body.now in
-    sym (refused_asks state_limit a.body.now (step_questions a.domain a.state a.symbol m) (step_figures a.domain a.state a.symbol m)
-    (opened_no state_limit a.body.now _ c.«open».ensures c.in-Refused.is))
+    let x = c.in_err-table.field-0.0 in
+    handed_back _ c.from_residual.result _ c.from_residual.ensures.1
+    ∙ no_asks state_limit a.body.now (Err x) c.in_err-table.ensures x refl (step_questions a.domain a.state a.symbol m)
+    (step_figures a.domain a.state a.symbol m)
 
-pub returns-in-Table : goal.returns-in-Table
+pub returns : goal.returns
 unfolding step_answer
-returns-in-Table c =
+returns c =
     let a = c.args in
-    let h = opened_yes state_limit _ _ c.«open».ensures
-    c.in-Table.is in
-    c.step_table.ensures ∙ opened_asks h c.next_states.ensures (step_questions a.domain a.state a.symbol)
-    (step_figures a.domain a.state a.symbol)
+    let t = c.in_ok-table.table in
+    c.step_table.ensures
+    ∙ table_asks state_limit a.body.now (Ok t) c.in_ok-table.ensures t refl (step_questions a.domain a.state a.symbol) (step_figures a.domain a.state a.symbol)

@@ -1,67 +1,72 @@
 -- `enter` meets its contract: after r rounds every pair has had r, and when no block is new all are done.
-use mathlib.Core.Path.{refl}
+use mathlib.Core.Path.{subst, sym}
+use mathlib.Core.List.{List}
+use Prim.Native.Nat.{ℕ}
 use native.Mathlib.Omega.{arith}
 use native.Mathlib.Numerals.{add-one}
-use borrow.Author.Rules.{rules}
-use Rattle.monitor.specs.Format.{automaton_of}
+use Rattle.monitor.specs.declared.graph.Graph.{Graph}
+use Rattle.monitor.specs.Graph.{automaton}
 use Rattle.monitor.proofs.Rows.{next_of_rows}
 use Rattle.square.specs.declared.Test.TheVariants.{Differ}
-use Rattle.square.specs.Square.{passing}
-use Rattle.rows.proofs.Several.{same_first, same_then}
+use Rattle.square.specs.Square.{HasRows, Squared, passing}
+use Rattle.partition.specs.declared.Blocks.{Blocks}
+use Rattle.partition.specs.Blocks.{Partition}
 use Rattle.partition.proofs.Splits.{blocks_few}
-use Rattle.refining.proofs.Rounds.{first_partition, refined_first, refined_last, alone_none, alone_more, alone_later}
+use Rattle.refining.specs.Refined.{Refined}
+use Rattle.refining.proofs.Rounds.{refined_first, refined_last, alone_none, alone_more, alone_later}
 use Rattle.refining.proofs.enter.Goals as goal
+
+-- what holds of the blocks once they are split by outputs
+abbrev Begun : List ℕ → List ℕ → Blocks → Graph → Type 0
+Begun outs square blocks g =
+    HasRows g.states square × Partition g.states square blocks × Refined (automaton g) (passing Differ outs) 0 1 square blocks
+
+pub split_outputs-requires : goal.split_outputs-requires
+split_outputs-requires c = (rw c.requires.1 (c.one-blocks.ensures.blocks _ c.requires.0), c.one-blocks.ensures.few)
 
 pub loop-old-init : goal.loop-old-init
 loop-old-init c =
     let p = c.requires in
-    let few = p.2.states_most in
-    let l = c.if-n-eq0.false in
-    let s = c.split_outputs-count.ensures in (
-      search rules,
-      omega (arith, l),
-      same_first,
-      refl,
-      s.blocks,
-      alone_none c.empty-alone.ensures,
-      refined_first c.args.outputs.now (first_partition few (omega (arith, l)) p.0 p.1 c.all_below.ensures c.write.ensures) s.blocks
-          s.finer s.like,
-    )
+    let s = c.split_outputs.ensures in
+    let outs = c.args.outputs.now in
+    let square = c.split_outputs.new.square in
+    let blocks = c.split_outputs.new.blocks in
+    let begun : Begun outs square blocks c.args.graph.now = (
+      omega (arith, c.args.graph.now.rows.states_most, c.split_outputs.array_long),
+      rw p.1 at s.blocks,
+      refined_first outs (c.one-blocks.ensures.blocks _ p.0) c.one-blocks.ensures.few (rw p.1 at s.blocks) (rw p.1 at s.finer) (rw p.1 at s.like),
+    ) in
+    let here = subst (Begun outs square blocks) (sym c.enter-predecessors.ensures) begun in
+    (omega arith, omega arith, here.0, here.1, alone_none c.empty-alone.ensures, here.2)
 
 pub alone_from-requires : goal.alone_from-requires
 alone_from-requires c =
-    let at = c.loop-old.invariant.4 in
-    let m = blocks_few at in
-    omega (arith, m, at.members_size)
+    let P = c.loop-old.invariant.3 in
+    let m = blocks_few P in
+    omega (arith, m, P.few)
 
 pub loop-old-smaller : goal.loop-old-smaller
 loop-old-smaller c =
-    let m = blocks_few c.loop-old.invariant.4 in
+    let m = blocks_few c.loop-old.invariant.3 in
     omega (arith, m, c.loop-old-test.true)
 
 pub loop-old-preserved : goal.loop-old-preserved
 loop-old-preserved c =
-    let p = c.requires in
-    let at = c.loop-old in
-    let a = c.args in
-    let made = c.refine-made.ensures in
-    let alone = alone_more p.2.states_most at.invariant.4 at.invariant.5 c.alone_from.ensures c.union-alone.ensures in
-    let once = made.round (automaton_of a.n a.k a.nexts.now) (passing Differ a.outputs.now) refl refl (next_of_rows p.2)
-    c.enter_predecessors.ensures alone at.invariant.6 in (
-      omega (arith, at.invariant.0, c.loop-old-test.true),
-      blocks_few at.invariant.4,
-      same_then at.invariant.2 (omega arith) (omega arith) (omega arith),
-      omega arith,
-      made.blocks,
-      alone_later once.1 alone,
-      rw (add-one at.r) once.0,
+    let at = c.loop-old.invariant in
+    let once = c.refine.ensures in
+    let alone = alone_more at.3 at.4 c.alone_from.ensures c.union-alone.ensures in
+    let m = blocks_few at.3 in (
+      omega (arith, at.0, c.loop-old-test.true),
+      omega (arith, m),
+      omega (arith, at.2),
+      once.blocks,
+      alone_later once.inside alone,
+      rw (add-one c.loop-old.r) (once.round (passing Differ c.args.outputs.now) at.5),
     )
 
-pub returns : goal.returns
-returns c =
-    let p = c.requires in
+pub returns-clause-distances : goal.returns-clause-distances
+returns-clause-distances c =
     let at = c.loop-old.invariant in
-    record {
-      distances = refined_last (next_of_rows p.2) (omega (arith, at.0, at.1, p.2.states_most)) at.4 at.6 c.loop-old-test.false;
-      blocks = (c.loop-old.count, at.4);
-    }
+    let outs = c.args.outputs.now in
+    subst (λ (g : Graph). Squared (automaton g) (passing Differ outs) c.loop-old.square) c.enter-predecessors.ensures
+    (refined_last (next_of_rows c.enter-predecessors.result.graph.rows) (omega (arith, at.0, at.1, at.3.few)) at.3 at.5 at.2 c.loop-old-test.false)

@@ -1,8 +1,21 @@
--- `leading` meets its contract, word by word.
-use Rattle.rows.proofs.Gather.{into_both}
+-- `leading` meets its contract: what was gathered, and what leads into the states that are left, make the whole.
+use lib.Dec.{eqb}
+use Rattle.state_set.specs.Member.{member}
+use Rattle.rows.proofs.Visit.{stays}
+use Rattle.rows.proofs.Gather.{gathering_none, gathering_more, gathering_all}
 use Rattle.refining.proofs.leading.Goals as goal
 
+pub loop-y-init : goal.loop-y-init
+loop-y-init c = rw (c.into_iter-y-iterator.ensures.into_iter_gives, c.states-y-items.ensures) (c.requires.1, gathering_none c.empty-into.ensures)
+
+pub loop-y-preserved : goal.loop-y-preserved
+loop-y-preserved c =
+    let at = c.loop-y in
+    let t = c.in-Some.ensures.steps in (
+      record { at = λ q h. at.invariant.0.at q (stays (member at.y-iterator.left) (member c.next.new.self.left) (λ x. eqb x c.in-Some.y) t.others q h) },
+      gathering_more at.invariant.1 c.args.predecessors.now.preceding c.requires.0 t.lowest.found (at.invariant.0.at _ t.lowest.found) c.of.ensures
+          c.union-into.ensures t.others,
+    )
+
 pub returns : goal.returns
-returns c =
-    λ g e few la closed P.
-    into_both closed la few c.low.ensures c.high.ensures c.union.ensures (c.leading_word-low.ensures g e la P) (c.leading_word.ensures g e la P)
+returns c = gathering_all c.loop-y.invariant.1 (λ q. (c.in-None.ensures.steps q).0)

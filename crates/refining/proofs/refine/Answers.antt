@@ -1,48 +1,51 @@
 -- `refine` meets its contract: the splitters before c are done.
-use mathlib.Core.Path.{◌∙◌}
 use native.Mathlib.Omega.{arith}
-use Rattle.rows.proofs.Several.{same_then}
+use Rattle.monitor.proofs.Rows.{next_of_rows}
 use Rattle.partition.proofs.Splits.{blocks_few}
-use Rattle.refining.proofs.Rounds.{alone_later, inside_of, refining_more, refining_ends}
+use Rattle.refining.proofs.Rounds.{alone_later, block_within, refining_more, refining_ends}
 use Rattle.refining.proofs.refine.Goals as goal
 
 pub copy-requires : goal.copy-requires
 copy-requires c =
-    let p = c.requires in
-    let m = blocks_few p.2 in
-    (omega (arith, m, p.2.members_size), omega (arith, m, p.3))
+    let P = c.requires.0 in
+    let m = blocks_few P in
+    omega (arith, m, P.few)
 
-pub read-splitter-requires : goal.read-splitter-requires
-read-splitter-requires c =
+pub offset_bounds-splitters-c : goal.offset_bounds-splitters-c
+offset_bounds-splitters-c c =
+    let P = c.requires.0 in
+    let m = blocks_few P in
+    omega (arith, m, P.few, c.loop-c-test.true)
+
+pub bounds-splitters-c : goal.bounds-splitters-c
+bounds-splitters-c c =
+    let P = c.requires.0 in
+    let m = blocks_few P in
+    omega (arith, m, P.few, c.loop-c-test.true)
+
+pub split_symbols-requires : goal.split_symbols-requires
+split_symbols-requires c =
     let p = c.requires in
-    let m = blocks_few p.2 in
-    omega (arith, m, p.3, c.loop-c-test.true)
+    let at = c.loop-c.invariant in (
+      at.0,
+      block_within p.0 c.loop-c-test.true (λ q. c.copy.ensures c.loop-c.c q c.loop-c.auto.c c.loop-c-test.true),
+      alone_later at.1 p.1,
+      omega (arith, p.2),
+    )
 
 pub loop-c-preserved : goal.loop-c-preserved
 loop-c-preserved c =
     let p = c.requires in
-    let at = c.loop-c in
-    let lc = c.loop-c-test.true in
-    let s = c.split_symbols-made.ensures in (
-      omega (arith, at.invariant.0),
-      same_then at.invariant.1 (omega arith) (omega arith) (omega arith),
+    let at = c.loop-c.invariant in
+    let s = c.split_symbols.ensures in (
       s.blocks,
-      λ g ends e ek closed P A L. (let R = at.invariant.3 g ends e ek closed P A L in
-          let led = s.led g e ek closed P (alone_later (inside_of e R) A) in
-          refining_more {members₀ = c.args.members.now} closed p.5 (rw e p.2) L R lc
-          (λ q. c.read-splitter.ensures q ∙ c.copy.ensures at.c q at.invariant.0 lc) (rw e led.0) (λ a la. rw e (led.1 a (omega (arith, la, ek))))),
+      record { were_one = λ x y lx ly e. at.1.were_one x y lx ly (s.finer.were_one x y lx ly e) },
+      λ ends L. refining_more (next_of_rows c.args.predecessors.now.graph.rows) p.2 p.0 L (at.2 ends L) c.loop-c-test.true
+          (λ q. c.copy.ensures c.loop-c.c q c.loop-c.auto.c c.loop-c-test.true) s.finer s.stable,
     )
 
-pub returns : goal.returns
-returns c =
-    let loop = c.loop-c in
+pub returns-clause-round : goal.returns-clause-round
+returns-clause-round c =
     let p = c.requires in
-    let at = loop.invariant in
-    record {
-      blocks = at.2;
-      round = λ g ends e ek closed P A L. (
-        refining_ends {members₀ = c.args.members.now} closed p.5 (rw e p.2) L (at.3 g ends e ek closed P A L) {members = loop.members}
-            c.loop-c-test.false (rw e at.2),
-        inside_of e (at.3 g ends e ek closed P A L),
-      );
-    }
+    let at = c.loop-c.invariant in
+    λ ends L. refining_ends (next_of_rows c.args.predecessors.now.graph.rows) p.2 p.0 L (at.2 ends L) c.loop-c-test.false at.0

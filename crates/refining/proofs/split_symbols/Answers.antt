@@ -1,28 +1,26 @@
 -- `split_symbols` meets its contract: the symbols below a are done.
-use Prim.Native.Nat.{◌<◌}
 use native.Mathlib.Omega.{arith}
-use Rattle.rows.proofs.Several.{same_then}
-use Rattle.refining.proofs.Rounds.{leading_more}
+use Rattle.monitor.specs.Graph.{automaton}
+use Rattle.theory.specs.Monitor.{state_limit}
+use Rattle.state_set.specs.Member.{member}
+use Rattle.rows.proofs.Visit.{empty_none}
+use Rattle.refining.proofs.Rounds.{leading_begins, leading_more, divided_none}
 use Rattle.refining.proofs.split_symbols.Goals as goal
+
+pub loop-a-init : goal.loop-a-init
+loop-a-init c = leading_begins c.requires.0
+
+pub loop-a-preserved-then-is_empty : goal.loop-a-preserved-then-is_empty
+loop-a-preserved-then-is_empty c =
+    let at = c.loop-a.invariant in
+    let none = empty_none state_limit (member c.minus-into.result) c.is_empty.ensures c.if-is_empty.true in
+    leading_more c.loop-a-test.true c.leading.ensures c.minus-into.ensures c.requires.2 at (divided_none at.partition none)
 
 pub loop-a-preserved : goal.loop-a-preserved
 loop-a-preserved c =
-    let loop = c.loop-a in
-    let few = c.requires.0 in
-    let at = loop.invariant in
-    let s = c.split_some-made.ensures in (
-      same_then at.0 (omega arith) (omega arith) (omega arith),
-      s.partition,
-      λ g e ek closed P A. (let la : loop.a < g.symbols = omega (arith, c.loop-a-test.true, ek) in
-          leading_more e la (c.leading.ensures g e (omega (arith, e, few)) la closed P) c.minus-into.ensures A
-          (at.2 g e ek closed P A) s.finer s.stable),
-    )
+    let p = c.requires in
+    leading_more c.loop-a-test.true c.leading.ensures c.minus-into.ensures p.2
+    c.loop-a.invariant c.split_by.ensures
 
-pub returns : goal.returns
-returns c =
-    let at = c.loop-a.invariant in
-    let all = c.loop-a-test.false in
-    record {
-      blocks = at.1;
-      led = λ g e ek closed P A. ((at.2 g e ek closed P A).finer, λ b lb. (at.2 g e ek closed P A).done b (omega (arith, lb, all)));
-    }
+pub returns-clause-stable : goal.returns-clause-stable
+returns-clause-stable c = λ a la. c.loop-a.invariant.done a (omega (arith, la, c.loop-a-test.false))

@@ -1,35 +1,49 @@
 -- `spread` meets its contract: the rows that lead to a state which is not left are done.
-use mathlib.Core.Path.{◌∙◌}
-use native.Mathlib.Omega.{arith}
-use Rattle.theory.specs.Monitor.{state_limit}
+use mathlib.Core.Path.{refl, sym, ◌∙◌}
+use lib.Dec.{eqb}
+use borrow.Author.Tests.{ltb-true}
+use Rattle.theory.proofs.Below.{and_right}
 use Rattle.state_set.specs.Member.{member}
-use Rattle.rows.proofs.Visit.{lowest_less}
-use Rattle.rows.proofs.Several.{same_then}
-use Rattle.rounds.proofs.Rounds.{spreading_more, spreading_ends}
+use Rattle.rows.proofs.Visit.{stays}
+use Rattle.rounds.proofs.Rounds.{rows_below, spreading_begins, spreading_more, spreading_ends}
 use Rattle.rounds.proofs.spread.Goals as goal
 
-pub returns-then-x-n : goal.returns-then-x-n
-returns-then-x-n c = λ g ends e ek G N A L.
-    spreading_ends G L (c.loop-all.invariant.3 g ends e ek G N A L) c.lowest-x.ensures (omega (arith, e, c.if-x-n.true))
-
-pub loop-all-smaller : goal.loop-all-smaller
-loop-all-smaller c =
-    lowest_less state_limit _ _ c.lowest-x.ensures
-    (omega (arith, c.if-x-n.false, c.requires.0.small)) c.without-left.ensures
-
-pub loop-all-preserved : goal.loop-all-preserved
-loop-all-preserved c =
-    let p = c.requires in
-    let at = c.loop-all in
-    let read = c.read.ensures in (
-      same_then at.invariant.0 (omega arith)
-          (omega arith) (omega arith),
-      omega arith,
-      omega arith,
-      λ g ends e ek G N A L. spreading_more G L (at.invariant.3 g ends e ek G N A L) c.lowest-x.ensures
-          (omega (arith, c.if-x-n.false, p.0.small)) (member c.args.all) ek (rw e p.3)
-          (λ q. c.intersection-front.ensures q ∙ rw (read q))
-          c.empty.ensures
-          c.write.ensures
-          (c.spread_state-found.ensures g e ek) c.without-left.ensures,
+pub loop-row-init : goal.loop-row-init
+loop-row-init c =
+    let P = c.args.predecessors.now in
+    let all = member P.all in
+    let both = c.intersection-rows.ensures in
+    rw (c.into_iter-row-iterator.ensures.into_iter_gives, c.states-row-items.ensures) (
+      record { at = λ q t. ltb-true q P.graph.states (sym (P.states q) ∙ and_right (member c.args.fresh.now.rows q) (all q) (sym (both q) ∙ t)) },
+      λ ends G N A L. spreading_begins G L (rows_below G L all _ P.states both) c.requires N.sets A N.rows,
+      c.empty-fresh.ensures,
+      refl,
     )
+
+pub invariant_of-front : goal.invariant_of-front
+invariant_of-front c =
+    let P = c.args.predecessors.now in
+    let both = c.intersection-states.ensures in
+    record {
+      row_inside = c.loop-row.invariant.0.at _ c.in-Some.ensures.steps.lowest.found;
+      states_inside = record { at = λ q t. ltb-true q P.graph.states (sym (P.states q) ∙ and_right (member c.read.result q) (member P.all q) (sym (both q) ∙ t)) };
+      early = c.requires;
+    }
+
+pub loop-row-preserved : goal.loop-row-preserved
+loop-row-preserved c =
+    let P = c.args.predecessors.now in
+    let at = c.loop-row in
+    let t = c.in-Some.ensures.steps in (
+      record { at = λ q h. at.invariant.0.at q (stays (member at.row-iterator.left) (member c.next.new.self.left) (λ x. eqb x c.in-Some.row) t.others q h) },
+      λ ends G N A L. spreading_more G L (at.invariant.1 ends G N A L) t (member P.all) refl P.states
+          (λ q. c.intersection-states.ensures q ∙ rw (c.read.ensures q))
+          c.empty.ensures c.write.ensures c.spread.ensures.goes,
+      at.invariant.2,
+      c.spread.ensures.stays ∙ at.invariant.3,
+    )
+
+pub returns-clause-round : goal.returns-clause-round
+returns-clause-round c = λ ends G N A L.
+    let end = spreading_ends G L (c.loop-row.invariant.1 ends G N A L) (λ q. (c.in-None.ensures.steps q).0) in
+    (end.0, record { sets = end.1; rows = c.loop-row.invariant.2 }, end.2)

@@ -1,10 +1,12 @@
--- `clear` meets its contract: the words below i are 0.
-use native.Mathlib.Omega.{arith}
+-- `clear` meets its contract: the first words are 0.
+use lib.ListN.{drop, take, length}
+use Prim.Native.Nat.{◌*◌}
+use Rattle.std.proofs.lemmas.List.{length-take-le}
 use Rattle.rows.proofs.Gather.{empty_filled}
 use Rattle.rows.proofs.clear.Goals as goal
 
 pub returns : goal.returns
 returns c =
-    let at = c.loop-i in
-    let n = c.args.n in
-    empty_filled n (rw at.invariant.1 c.requires) (record { at = λ j l. at.invariant.2.at j (omega (arith, l, c.loop-i-test.false)) })
+    let s = c.args.sets.now in
+    let m = c.args.n * 2 in
+    empty_filled c.args.n (length (take m s)) (drop m s) (length-take-le m s c.requires) (c.fill.ensures.after (λ y e. e))

@@ -1,73 +1,48 @@
 -- `enter_totals` meets its contract: of the states passed, those that lead on are entered.
-use mathlib.Core.Path.{◌≡◌, refl, subst}
-use Prim.Native.Nat.{ℕ, ◌+◌, ◌-◌, ◌≤◌, ◌<◌}
+use mathlib.Core.Path.{◌≡◌, ap, ◌∙◌, subst}
+use Prim.Native.Nat.{ℕ, ◌+◌, ◌-◌, ◌<◌}
 use native.Mathlib.Omega.{arith}
 use lib.ListN.{get_or}
 use Rattle.theory.specs.Monitor.{state_limit}
-use Rattle.monitor.specs.Format.{automaton_of}
-use Rattle.square.specs.Square.{never}
-use Rattle.layers.specs.Layers.{depth_at}
+use Rattle.monitor.specs.Graph.{automaton}
 use Rattle.layers.proofs.Queue.{queue_few}
 use Rattle.totals.specs.Totals.{OnTheWay}
 use Rattle.totals.proofs.Way.{way_not, way_on}
-use Rattle.totals.proofs.enter_totals.Goals.{In-loop-i}
+use Rattle.totals.proofs.enter_totals.Goals.{After-leads_on}
 use Rattle.totals.proofs.enter_totals.Goals as goal
 
--- the state at the place before, and how deep it is
-place : (c : In-loop-i)
+pub bounds-layers-i : goal.bounds-layers-i
+bounds-layers-i c = (let few = c.args.graph.now.rows.states_most in omega (arith, queue_few few c.requires.0, few, c.requires.1))
+
+-- the place before is one of the layers, what is left at its state and the depth are the total, and what is known from
+-- there on
+behind : (c : After-leads_on)
     → (let a = c.args in
     let i = c.loop-i.i - 1 in
-    (i < a.count) × (i < state_limit) × (get_or a.order.now i 0 < a.n) × (a.n ≤ state_limit)
-    × (depth_at a.order.now a.depths.now i < a.least.total) × (a.least.total < never))
-place c =
-    let pre = c.requires in
-    let few = pre.0.states_most in
-    let at = c.loop-i in
-    let m = queue_few few pre.1 in
-    let l : at.i - 1 < c.args.count = omega (arith, c.loop-i-test.true, at.invariant.0, pre.2) in
-    (l, omega (arith, l, m, few), pre.1.inside (at.i - 1) l, few, pre.3 (at.i - 1) (omega (arith, c.loop-i-test.true, at.invariant.0)), pre.4)
-
--- what is known from there on
-behind : (c : In-loop-i)
-    → (let a = c.args in
-    OnTheWay state_limit (automaton_of a.n a.k a.nexts.now) a.order.now a.depths.now a.costs.now a.least.total
-    ((c.loop-i.i - 1) + 1) a.least.visited c.loop-i.totals)
+    (i < a.layers.now.count) × (a.costs.now.total - c.from.result + get_or a.layers.now.depths c.from-p.result 0 ≡ a.costs.now.total)
+    × OnTheWay state_limit (automaton a.graph.now) a.layers.now.order a.layers.now.depths a.costs.now.costs a.costs.now.total (i + 1)
+    a.costs.now.visited c.loop-i.totals)
 behind c =
     let a = c.args in
     let at = c.loop-i in
     let e : at.i ≡ (at.i - 1) + 1 = omega (arith, c.loop-i-test.true) in
-    subst
-    (λ (j : ℕ). OnTheWay state_limit (automaton_of a.n a.k a.nexts.now) a.order.now a.depths.now a.costs.now a.least.total j
-    a.least.visited at.totals)
-    e at.invariant.1
-
-pub bounds-order-i : goal.bounds-order-i
-bounds-order-i c = (place (goal.at.bounds-order-i c).In-loop-i).1
+    let shallow = c.requires.2 (at.i - 1) (omega (arith, c.loop-i-test.true, at.auto.i)) in
+    let depth = c.from.ensures ∙ ap (λ (q : ℕ). get_or a.layers.now.depths q 0) c.from-p.ensures in (
+      omega (arith, c.loop-i-test.true, at.auto.i, c.requires.1),
+      omega (arith, shallow, depth, c.from.ensures),
+      subst
+          (λ (j : ℕ). OnTheWay state_limit (automaton a.graph.now) a.layers.now.order a.layers.now.depths a.costs.now.costs a.costs.now.total j
+          a.costs.now.visited at.totals)
+          e at.invariant,
+    )
 
 pub loop-i-preserved-then-leads_on : goal.loop-i-preserved-then-leads_on
 loop-i-preserved-then-leads_on c =
-    let pre = c.requires in
-    let s = place (goal.at.loop-i-preserved-then-leads_on c).In-loop-i in (
-      omega (arith, c.loop-i.invariant.0),
-      way_on _ s.3 pre.1 s.0 refl (omega (arith, s.4)) s.5 (behind (goal.at.loop-i-preserved-then-leads_on c).In-loop-i)
-          (c.leads_on.ensures.yes c.if-leads_on.true) pre.2,
-    )
+    let b = behind (goal.at.loop-i-preserved-then-leads_on c).After-leads_on in
+    way_on _ c.args.graph.now.rows.states_most c.requires.0 b.0 c.from-p.ensures b.1 c.requires.3 b.2 (c.leads_on.ensures.yes c.if-leads_on.true)
+    c.requires.1
 
 pub loop-i-preserved : goal.loop-i-preserved
 loop-i-preserved c =
-    let pre = c.requires in
-    let s = place (goal.at.loop-i-preserved c).In-loop-i in (
-      omega (arith, c.loop-i.invariant.0),
-      way_not _ s.3 pre.1 s.0 refl (omega (arith, s.4)) s.5 (behind (goal.at.loop-i-preserved c).In-loop-i)
-          (c.leads_on.ensures.no c.if-leads_on.false),
-    )
-
-pub returns : goal.returns
-returns c =
-    let a = c.args in
-    let at = c.loop-i in
-    let e : at.i ≡ 0 = omega (arith, c.loop-i-test.false) in
-    subst
-    (λ (j : ℕ). OnTheWay state_limit (automaton_of a.n a.k a.nexts.now) a.order.now a.depths.now a.costs.now a.least.total j
-    a.least.visited at.totals)
-    e at.invariant.1
+    let b = behind (goal.at.loop-i-preserved c).After-leads_on in
+    way_not _ c.args.graph.now.rows.states_most c.requires.0 b.0 c.from-p.ensures b.1 c.requires.3 b.2 (c.leads_on.ensures.no c.if-leads_on.false)

@@ -1,11 +1,7 @@
--- `next_state` meets its contract: the states passed are of other classes.
-use native.Mathlib.Omega.{arith}
-use borrow.Author.Tests.{eq-eqb}
-use Rattle.theory.proofs.Scan.{scan_finds, scan_ends}
+-- `next_state` meets its contract: what is looked for is a state of the class.
+use Rattle.std.proofs.Common.{rules}
+use Rattle.drawing.specs.Runs.{holds_at}
 use Rattle.drawing.proofs.states.next_state.Goals as goal
 
-pub returns-then-classes-q : goal.returns-then-classes-q
-returns-then-classes-q c = scan_finds c.loop-q.invariant (eq-eqb _ _ c.if-classes-q.true)
-
 pub returns : goal.returns
-returns c = (let p = c.loop-q.invariant in scan_ends p (omega (arith, p.from)))
+returns c = rw (← c.saturating_sub-count.ensures) (c.first_in.ensures (holds_at c.args.classes.now c.args.class) (λ i b from upto e. search rules))

@@ -1,0 +1,9 @@
+-- `items` ends.
+use Prim.Native.Nat.{◌-◌}
+use Rattle.drawing.proofs.traces.Sketch.items.Given as goal
+
+abbrev pub invariant-loop-i : goal.invariant-loop-i
+invariant-loop-i g l = Unit {0}
+
+abbrev pub decreases-loop-i : goal.decreases-loop-i
+decreases-loop-i g l = l.to - l.i

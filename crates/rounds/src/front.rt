@@ -1,0 +1,86 @@
+// What the states at some distance from a state add in a round.
+//
+// A round goes by blocks of the square: rows of part v and columns of part w, a word for each row. A table of up to 64
+// states is one block: of its predecessors, alike and next states only the lower words are looked at.
+ghost use Rattle.std.specs.Prelude.{ℕ, ◌+◌, ◌/◌, ◌≤◌, ◌<◌};
+ghost use Rattle.state_set.specs.Member.{member};
+ghost use Rattle.square.specs.Square.{never};
+ghost use Rattle.rows.specs.Sets.{Within};
+
+use rows::{Fresh, Predecessors, Search};
+use state_set::{StateSet, WORD};
+
+// The states at `distance` from the state of a row.
+#[derive(Clone, Copy)]
+pub struct Front<'g, 's> {
+    pub predecessors: Predecessors<'g, 's>,
+    pub row: usize,
+    pub states: StateSet,
+    pub distance: u16,
+    pub ghost row_inside: { row < predecessors.graph.states },
+    pub ghost states_inside: { Within predecessors.graph.states (member states) },
+    pub ghost early: { distance + 1 < never },
+}
+
+impl Front<'_, '_> {
+    ghost use Rattle.rounds.specs.Fronts.{Adds, symbol_of, block_of, part_of, all_of};
+
+    // Does the active rows of part v from which a leads to the row's state, in the columns of part w.
+    fn spread_symbol(&self, search: &mut Search, next: &mut Fresh, a: usize, v: usize, w: usize)
+        requires { (a < self.now.predecessors.graph.symbols)
+            × (v < 2)
+            × (w < 2) }
+        ensures { Adds self.now (symbol_of self.now v w a) search.old next.old search.new next.new }
+    {
+        let leading = self.predecessors.part_of(self.row, a, v);
+        let left = leading & state_set::word_at(&search.active, w, v);
+        if left == 0 {
+            return;
+        }
+        let into = self.predecessors.leading_into(a, self.states, w);
+        search.spread_rows(next, left, v, w, into, self.distance);
+    }
+
+    // The same for each symbol: the rows of part v, in the columns of part w.
+    fn spread_block(&self, search: &mut Search, next: &mut Fresh, v: usize, w: usize)
+        requires { (v < 2)
+            × (w < 2) }
+        ensures { Adds self.now (block_of self.now v w self.now.predecessors.graph.symbols)
+            search.old next.old search.new next.new }
+    {
+        for a in 0..self.predecessors.graph.symbols {
+            self.spread_symbol(search, next, a, v, w);
+        }
+    }
+
+    // How many parts there are: two where there are more states than a word has.
+    fn parts(&self) -> usize
+        ensures { (result ≤ 2)
+            × ((q : ℕ) → q < self.now.predecessors.graph.states → q / 64 < result) }
+    {
+        if self.predecessors.graph.states > WORD {
+            2
+        } else {
+            1
+        }
+    }
+
+    // The same for the columns of all parts.
+    fn spread_columns(&self, search: &mut Search, next: &mut Fresh, v: usize)
+        requires { v < 2 }
+        ensures { Adds self.now (part_of self.now v) search.old next.old search.new next.new }
+    {
+        for w in 0..self.parts() {
+            self.spread_block(search, next, v, w);
+        }
+    }
+
+    // The same for the rows of all parts.
+    pub fn spread(&self, search: &mut Search, next: &mut Fresh)
+        ensures { Adds self.now (all_of self.now) search.old next.old search.new next.new }
+    {
+        for v in 0..self.parts() {
+            self.spread_columns(search, next, v);
+        }
+    }
+}
