@@ -10,6 +10,7 @@ use lib.Dec.{eqb, leb}
 use lib.ListN.{length, get_or}
 use borrow.Author.Tests.{eq-eqb, lt-ltb}
 use Rattle.theory.specs.Pairs.{told}
+use Rattle.state_set.specs.declared.StateSet.{StateSet}
 use Rattle.square.specs.declared.Test.{Test}
 use Rattle.square.specs.declared.Test.TheVariants.{Differ, Misread}
 use Rattle.square.specs.Square.{never, entry, passes, passing, apart_at_once}
@@ -26,7 +27,7 @@ passes_self (Misread v) x = go (eqb x v)
     go true = refl
     go false = refl
 
-module _ {n : ℕ} {test : Test} {outs square alike fresh : List ℕ} {rows : ℕ → Bool} (e : length outs ≡ n)
+module _ {n : ℕ} {test : Test} {outs square : List ℕ} {alike fresh : List StateSet} {rows : ℕ → Bool} (e : length outs ≡ n)
     (b : Begun test outs (length outs) (length outs * length outs) square alike fresh rows) where
   done : (p q : ℕ) → p < n → q < n → entry square p q ≡ cond (passing test outs p q) 0 never
   done p q lp lq =

@@ -1,5 +1,6 @@
 -- What a search by pairs begins with.
-use Rattle.std.specs.Prelude.{◌≡◌, ℕ, ◌^◌, ◌-◌, ◌<◌, get_or}
+use Rattle.std.specs.Prelude.{◌≡◌, true, ℕ, ◌<◌}
+use Rattle.state_set.specs.Member.{set_at}
 use Rattle.square.specs.Square.{Blank}
 use Rattle.rows.specs.declared.search.Search.{Search}
 use Rattle.rows.specs.Sets.{Empty}
@@ -8,4 +9,4 @@ use Rattle.rows.specs.Sets.{Empty}
 pub record Unused (n : ℕ) (search : Search) : Type 0 where
   pub blank : Blank n search.square.now
   pub alike_none : Empty n search.alike
-  pub active_all : (i : ℕ) → i < 4 → get_or search.active i 0 ≡ 2 ^ 64 - 1
+  pub active_all : (w p : ℕ) → w < 2 → p < n → set_at search.active w p ≡ true

@@ -11,15 +11,12 @@ ghost use Rattle.pairs.specs.Unused.{Unused};
 use monitor::Graph;
 use rows::{Fresh, PREDECESSORS, Predecessors, Search};
 use square::Test;
-use state_set::WORDS;
+use state_set::{PARTS, StateSet};
 use theory::{SQUARE_SIZE, STATE_LIMIT};
 
 mod workspace;
 
 pub use workspace::Workspace;
-
-// A word that has every state of its part.
-const ALL: u64 = 0xffffffffffffffff;
 
 // Enters the distance of every two states: round by round, until no pair is fresh; the two lists of fresh pairs take
 // turns.
@@ -45,7 +42,7 @@ fn enter_rounds(search: &mut Search, predecessors: &Predecessors, outputs: &[u8]
 // The same, with the sets that a search by pairs begins with.
 fn enter_by_pairs(
     square: &mut [u16; SQUARE_SIZE],
-    area: &mut [u64; PREDECESSORS],
+    area: &mut [StateSet; PREDECESSORS],
     graph: &Graph,
     outputs: &[u8],
     test: Test,
@@ -57,8 +54,8 @@ fn enter_by_pairs(
     let predecessors = Predecessors::enter(area, graph);
     let mut search = Search {
         square,
-        alike: [0; STATE_LIMIT * WORDS],
-        active: [ALL; WORDS * WORDS],
+        alike: [StateSet::empty(); STATE_LIMIT],
+        active: [predecessors.all; PARTS],
     };
     enter_rounds(&mut search, &predecessors, outputs, test);
 }

@@ -6,13 +6,14 @@ ghost use Rattle.square.specs.Square.{Squared, passing};
 use monitor::Graph;
 use rows::PREDECESSORS;
 use square::Test;
+use state_set::StateSet;
 use theory::SQUARE_SIZE;
 
 // The square of pair distances, and the sets of predecessors. It is made once and lent to one search after the other.
 #[derive(Drop)]
 pub struct Workspace {
     pub square: [u16; SQUARE_SIZE],
-    pub predecessors: [u64; PREDECESSORS],
+    pub predecessors: [StateSet; PREDECESSORS],
 }
 
 impl Workspace {
@@ -21,7 +22,7 @@ impl Workspace {
     pub fn new() -> Self {
         Workspace {
             square: [0; SQUARE_SIZE],
-            predecessors: [0; PREDECESSORS],
+            predecessors: [StateSet::empty(); PREDECESSORS],
         }
     }
 

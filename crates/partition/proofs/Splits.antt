@@ -13,11 +13,11 @@ use Rattle.theory.specs.Below.{count}
 use Rattle.theory.specs.Monitor.{state_limit}
 use Rattle.theory.proofs.Below.{clash, not_clash, is_true, both_ways, lt_or_le, same_or_not, or_cases, and_left, and_right, count_le, count_more}
 use Rattle.state_set.specs.declared.StateSet.{StateSet}
-use Rattle.state_set.specs.Member.{member}
+use Rattle.state_set.specs.Member.{member, no_states, set_at}
 use Rattle.square.specs.Square.{never, place, Blank, entry}
 use Rattle.rows.proofs.Visit.{fewer}
 use Rattle.partition.specs.declared.Blocks.{Blocks}
-use Rattle.partition.specs.Blocks.{block, no_states, in_set, Partition, between, Split, Parted, Finer, Parts, Stable, Divided}
+use Rattle.partition.specs.Blocks.{block, Partition, between, Split, Parted, Finer, Parts, Stable, Divided}
 
 -- blocks none of which is empty are no more than the states
 blocks_most : (n m : ℕ) (number : ℕ → ℕ) → ((c : ℕ) → c < m → (q : ℕ) × (q < n) × (number q ≡ c)) → m ≤ n
@@ -99,8 +99,8 @@ not_same {a = false} {b = false} e = refl
 pub record Halves (n : ℕ) (square : List ℕ) (blocks : Blocks) (b : ℕ) (f one others : ℕ → Bool) : Type 0 where
   pub partition : Partition n square blocks
   pub below : b < blocks.count
-  pub is_one : (q : ℕ) → one q ≡ (in_set blocks.members b q && f q)
-  pub is_others : (q : ℕ) → others q ≡ (in_set blocks.members b q && not (f q))
+  pub is_one : (q : ℕ) → one q ≡ (set_at blocks.members b q && f q)
+  pub is_others : (q : ℕ) → others q ≡ (set_at blocks.members b q && not (f q))
   pub in_one : (q : ℕ) × (one q ≡ true)
   pub in_others : (q : ℕ) × (others q ≡ true)
 
@@ -110,7 +110,7 @@ halves_swap {b = b} {blocks = blocks} {f} H = record {
   partition = H.partition;
   below = H.below;
   is_one = H.is_others;
-  is_others = λ q. H.is_one q ∙ twice (in_set blocks.members b q) (f q);
+  is_others = λ q. H.is_one q ∙ twice (set_at blocks.members b q) (f q);
   in_one = H.in_others;
   in_others = H.in_one;
 }
@@ -128,25 +128,25 @@ module _ {n d b : ℕ} {square : List ℕ} {blocks : Blocks} {f one others : ℕ
   abbrev lb : b < blocks.count
   lb = H.below
 
-  of_block : (q : ℕ) → in_set blocks.members b q ≡ true → (q < n) × (block blocks q ≡ b)
+  of_block : (q : ℕ) → set_at blocks.members b q ≡ true → (q < n) × (block blocks q ≡ b)
   of_block q t =
       let h = sym (P.members_are b q lb) ∙ t in
       (ltb-true q n (and_left (ltb q n) (eqb (block blocks q) b) h), eqb-true (block blocks q) b (and_right (ltb q n) (eqb (block blocks q) b) h))
 
-  in_block : (q : ℕ) → q < n → block blocks q ≡ b → in_set blocks.members b q ≡ true
+  in_block : (q : ℕ) → q < n → block blocks q ≡ b → set_at blocks.members b q ≡ true
   in_block q lq e = P.members_are b q lb ∙ rw (lt-ltb q n lq, eq-eqb (block blocks q) b e)
 
   one_is : (q : ℕ) → one q ≡ true → (q < n) × (block blocks q ≡ b) × (f q ≡ true)
   one_is q t =
       let h = sym (H.is_one q) ∙ t in
-      let o = of_block q (and_left (in_set blocks.members b q) (f q) h) in
-      (o.0, o.1, and_right (in_set blocks.members b q) (f q) h)
+      let o = of_block q (and_left (set_at blocks.members b q) (f q) h) in
+      (o.0, o.1, and_right (set_at blocks.members b q) (f q) h)
 
   others_is : (q : ℕ) → others q ≡ true → (q < n) × (block blocks q ≡ b) × (f q ≡ false)
   others_is q t =
       let h = sym (H.is_others q) ∙ t in
-      let o = of_block q (and_left (in_set blocks.members b q) (not (f q)) h) in
-      (o.0, o.1, not-true (f q) (and_right (in_set blocks.members b q) (not (f q)) h))
+      let o = of_block q (and_left (set_at blocks.members b q) (not (f q)) h) in
+      (o.0, o.1, not-true (f q) (and_right (set_at blocks.members b q) (not (f q)) h))
 
   -- a state of the block that is not one is among the others
   if_not : (q : ℕ) → q < n → block blocks q ≡ b → one q ≡ false → others q ≡ true
@@ -194,10 +194,10 @@ module _ {n d b : ℕ} {square : List ℕ} {blocks : Blocks} {f one others : ℕ
     other_number : b ≡ blocks.count → ⊥
     other_number e = omega (arith, e, lb)
 
-    members_after : (c q : ℕ) → c < blocks.count + 1 → in_set blocks'.members c q ≡ (ltb q n && eqb (block blocks' q) c)
+    members_after : (c q : ℕ) → c < blocks.count + 1 → set_at blocks'.members c q ≡ (ltb q n && eqb (block blocks' q) c)
     members_after c q lc = ⊎_elim inside outside (lt_or_le q n)
       where
-        outside : n ≤ q → in_set blocks'.members c q ≡ (ltb q n && eqb (block blocks' q) c)
+        outside : n ≤ q → set_at blocks'.members c q ≡ (ltb q n && eqb (block blocks' q) c)
         outside l = rw (le-ltb q n l) (⊎_elim
             (λ (e : c ≡ blocks.count). rw e (S.new q ∙ not_clash (λ t. (let h = (one_is q t).0 in omega (arith, h, l)))))
             (λ ne. ⊎_elim
@@ -209,22 +209,22 @@ module _ {n d b : ℕ} {square : List ℕ} {blocks : Blocks} {f one others : ℕ
             before : (c ≡ blocks.count → ⊥) → c < blocks.count
             before ne = ⊎_elim (λ h. h) (λ h. absurd (ne (omega (arith, h, lc)))) (lt_or_le c blocks.count)
 
-        inside : q < n → in_set blocks'.members c q ≡ (ltb q n && eqb (block blocks' q) c)
+        inside : q < n → set_at blocks'.members c q ≡ (ltb q n && eqb (block blocks' q) c)
         inside lq = rw (lt-ltb q n lq, numbered q lq) (go (one q) refl)
           where
             below : block blocks q < blocks.count
             below = P.below q lq
 
-            here : (u : Bool) → one q ≡ u → c ≡ blocks.count → in_set blocks'.members c q ≡ eqb (cond u blocks.count (block blocks q)) c
+            here : (u : Bool) → one q ≡ u → c ≡ blocks.count → set_at blocks'.members c q ≡ eqb (cond u blocks.count (block blocks q)) c
             here true h e = rw e (S.new q ∙ h ∙ sym (eq-eqb blocks.count blocks.count refl))
             here false h e = rw e (S.new q ∙ h ∙ sym (ne_eqb (block blocks q) blocks.count (λ z. omega (arith, z, below))))
 
-            there : (u : Bool) → one q ≡ u → (c ≡ blocks.count → ⊥) → c ≡ b → in_set blocks'.members c q ≡ eqb (cond u blocks.count (block blocks q)) c
+            there : (u : Bool) → one q ≡ u → (c ≡ blocks.count → ⊥) → c ≡ b → set_at blocks'.members c q ≡ eqb (cond u blocks.count (block blocks q)) c
             there true h ne e = rw e (S.old other_number q ∙ not_others q h ∙ sym (ne_eqb blocks.count b (λ z. omega (arith, z, lb))))
             there false h ne e = rw e (S.old other_number q ∙ both_ways (λ t. eq-eqb (block blocks q) b (others_is q t).1)
                 (λ t. if_not q lq (eqb-true (block blocks q) b t) h))
 
-            elsewhere : (u : Bool) → one q ≡ u → (c ≡ blocks.count → ⊥) → (c ≡ b → ⊥) → in_set blocks.members c q ≡ eqb (cond u blocks.count (block blocks q)) c
+            elsewhere : (u : Bool) → one q ≡ u → (c ≡ blocks.count → ⊥) → (c ≡ b → ⊥) → set_at blocks.members c q ≡ eqb (cond u blocks.count (block blocks q)) c
             elsewhere u h ne nb =
                 let lc' : c < blocks.count = ⊎_elim (λ z. z) (λ z. absurd (ne (omega (arith, z, lc)))) (lt_or_le c blocks.count) in
                 P.members_are c q lc' ∙ rw (lt-ltb q n lq) (same u h)
@@ -233,7 +233,7 @@ module _ {n d b : ℕ} {square : List ℕ} {blocks : Blocks} {f one others : ℕ
                 same true h = ne_eqb (block blocks q) c (λ z. nb (sym z ∙ (one_is q h).1)) ∙ sym (ne_eqb blocks.count c (λ z. ne (sym z)))
                 same false h = refl
 
-            go : (u : Bool) → one q ≡ u → in_set blocks'.members c q ≡ eqb (cond u blocks.count (block blocks q)) c
+            go : (u : Bool) → one q ≡ u → set_at blocks'.members c q ≡ eqb (cond u blocks.count (block blocks q)) c
             go u h = ⊎_elim (here u h)
                 (λ ne. ⊎_elim (there u h ne) (λ nb. S.elsewhere c q nb ne ∙ elsewhere u h ne nb) (same_or_not c b)) (same_or_not c blocks.count)
 
@@ -352,7 +352,7 @@ module _ {n d b : ℕ} {square : List ℕ} {blocks : Blocks} {f one others : ℕ
 -- ---- blocks split one after another by a set
 
 module _ {n b : ℕ} {square : List ℕ} {blocks : Blocks} (P : Partition n square blocks) (set : ℕ → Bool)
-    (some : (q : ℕ) × (q < n) × (block blocks q ≡ b) × (set q ≡ true)) {whole outside : ℕ → Bool} (is_whole : (q : ℕ) → whole q ≡ in_set blocks.members b q)
+    (some : (q : ℕ) × (q < n) × (block blocks q ≡ b) × (set q ≡ true)) {whole outside : ℕ → Bool} (is_whole : (q : ℕ) → whole q ≡ set_at blocks.members b q)
     (is-out : (q : ℕ) → outside q ≡ (whole q && not (set q))) where
   one_below : b < blocks.count
   one_below = (let l = P.below some.0 some.1 in let e = some.2 in omega (arith, l, e))
@@ -399,7 +399,7 @@ module _ {n d : ℕ} {set : ℕ → Bool} {square₀ : List ℕ} {blocks₀ : Bl
     stable = record { at = λ p q lp lq e. both_ways (λ t. S.done p q lp lq e t (none p lp)) (λ t. S.done q p lq lp (sym e) t (none q lq)) };
   }
 
-  module _ {y b : ℕ} (ly : y < n) (is : b ≡ block blocks y) {whole left' : ℕ → Bool} (is_whole : (q : ℕ) → whole q ≡ in_set blocks.members b q)
+  module _ {y b : ℕ} (ly : y < n) (is : b ≡ block blocks y) {whole left' : ℕ → Bool} (is_whole : (q : ℕ) → whole q ≡ set_at blocks.members b q)
       (is_left : (q : ℕ) → left' q ≡ (left q && not (whole q))) where
     made_below : b < blocks.count
     made_below = (let l = S.partition.below y ly in omega (arith, l, is))

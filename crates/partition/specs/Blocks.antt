@@ -1,8 +1,7 @@
 -- The states below n in blocks, which become finer: the block of a state, the states of a block, what the square says.
 use Rattle.std.specs.Prelude.{◌≡◌, Bool, cond, ◌&&◌, ◌||◌, List, ◌⊎◌, ℕ, suc, ◌≤◌, ◌<◌, eqb, ltb, get_or}
 use Rattle.theory.specs.Monitor.{state_limit}
-use Rattle.state_set.specs.declared.StateSet.{StateSet}
-use Rattle.state_set.specs.Member.{member}
+use Rattle.state_set.specs.Member.{set_at}
 use Rattle.square.specs.Square.{never, entry}
 use Rattle.partition.specs.declared.Blocks.{Blocks}
 
@@ -10,21 +9,13 @@ use Rattle.partition.specs.declared.Blocks.{Blocks}
 abbrev pub block : Blocks → ℕ → ℕ
 block blocks q = get_or blocks.numbers q 0
 
--- the empty set
-abbrev pub no_states : StateSet
-no_states = record { low = 0; high = 0 }
-
--- state q is in set c of several
-abbrev pub in_set : List StateSet → ℕ → ℕ → Bool
-in_set sets c q = member (get_or sets c no_states) q
-
 -- the states below n are in the blocks below the count, none of which is empty; set c has the states of block c, and two
 -- states of one block, and no others, are not told apart
 pub record Partition (n : ℕ) (square : List ℕ) (blocks : Blocks) : Type 0 where
   pub few : n ≤ state_limit
   pub below : (q : ℕ) → q < n → block blocks q < blocks.count
   pub some : (c : ℕ) → c < blocks.count → (q : ℕ) × (q < n) × (block blocks q ≡ c)
-  pub members_are : (c q : ℕ) → c < blocks.count → in_set blocks.members c q ≡ (ltb q n && eqb (block blocks q) c)
+  pub members_are : (c q : ℕ) → c < blocks.count → set_at blocks.members c q ≡ (ltb q n && eqb (block blocks q) c)
   pub together : (p q : ℕ) → p < n → q < n → eqb (entry square p q) never ≡ eqb (block blocks p) (block blocks q)
 
 -- ---- what a split changes
@@ -49,10 +40,10 @@ pub record Split (b : ℕ) (one others : ℕ → Bool) (d : ℕ) (square : List 
   pub entries : Entries square (between one others) d square'
   pub numbered : (q : ℕ) → q < state_limit → block blocks' q ≡ cond (one q) blocks.count (block blocks q)
   pub counted : blocks'.count ≡ suc blocks.count
-  pub new : (q : ℕ) → in_set blocks'.members blocks.count q ≡ one q
-  pub old : (b ≡ blocks.count → ⊥) → (q : ℕ) → in_set blocks'.members b q ≡ others q
+  pub new : (q : ℕ) → set_at blocks'.members blocks.count q ≡ one q
+  pub old : (b ≡ blocks.count → ⊥) → (q : ℕ) → set_at blocks'.members b q ≡ others q
   pub elsewhere : (x q : ℕ) → (x ≡ b → ⊥) → (x ≡ blocks.count → ⊥)
-      → in_set blocks'.members x q ≡ in_set blocks.members x q
+      → set_at blocks'.members x q ≡ set_at blocks.members x q
 
 -- ---- finer blocks
 

@@ -4,9 +4,9 @@
 
 ghost use Rattle.std.specs.Prelude.{◌≡◌, true, List, ℕ, ◌≤◌, ◌<◌, eqb, length, get_or};
 ghost use Rattle.theory.specs.Monitor.{state_limit};
-ghost use Rattle.state_set.specs.Member.{member};
+ghost use Rattle.state_set.specs.Member.{member, set_at};
 ghost use Rattle.square.specs.Square.{never, Blank};
-ghost use Rattle.partition.specs.Blocks.{block, in_set, Partition, between, Entries, Numbered, Split};
+ghost use Rattle.partition.specs.Blocks.{block, Partition, between, Entries, Numbered, Split};
 ghost use Rattle.partition.specs.Blocks.{Finer, Parts, Divided};
 
 use state_set::StateSet;
@@ -63,7 +63,7 @@ impl Blocks {
     // The states of block c.
     pub fn states_of(&self, c: usize) -> StateSet
         requires { c < state_limit }
-        ensures { (q : ℕ) → member result q ≡ in_set self.now.members c q }
+        ensures { (q : ℕ) → member result q ≡ set_at self.now.members c q }
     {
         self.members[c]
     }

@@ -11,6 +11,7 @@ use lib.ListN.{length, set}
 use borrow.Author.Tests.{eq-eqb, ne_eqb, lt-ltb, le-ltb, ltb-true}
 use Rattle.theory.specs.Monitor.{state_limit}
 use Rattle.theory.proofs.Below.{clash, lt_or_le, same_or_not, or_right, and_left}
+use Rattle.state_set.specs.declared.StateSet.{StateSet}
 use Rattle.state_set.specs.Member.{member, set_at, Put}
 use Rattle.square.specs.declared.Test.{Test}
 use Rattle.square.specs.Square.{never, place, HasRows, entry, passing, Blank}
@@ -28,7 +29,7 @@ pub zero_where : (c : Bool) → eqb (cond c 0 never) 0 ≡ c
 zero_where true = refl
 zero_where false = refl
 
-pub begun_none : {test : Test} {outs square alike : List ℕ} {fresh : Fresh} → length outs ≤ state_limit → Blank (length outs) square
+pub begun_none : {test : Test} {outs square : List ℕ} {alike : List StateSet} {fresh : Fresh} → length outs ≤ state_limit → Blank (length outs) square
     → Empty (length outs) alike → Bare (length outs) fresh → Begun test outs 0 0 square alike fresh.sets (member fresh.rows)
 begun_none {outs = outs} {square = square} small blank A F = record {
   kept = record {
@@ -52,10 +53,10 @@ begun_none {outs = outs} {square = square} small blank A F = record {
 
 -- ---- what is done for a pair, and at the end of a row
 
-module _ {test : Test} {outs : List ℕ} {p q : ℕ} {square fresh : List ℕ} where
+module _ {test : Test} {outs : List ℕ} {p q : ℕ} {square : List ℕ} {fresh : List StateSet} where
   -- the test tells the pair apart
   pub pair_apart : passing test outs p q ≡ true → length outs ≤ state_limit → HasRows (length outs) square → p < length outs → q < length outs
-      → {fresh' : List ℕ} {with : ℕ → Bool}
+      → {fresh' : List StateSet} {with : ℕ → Bool}
       → ((x : ℕ) → with x ≡ (set_at fresh p x || (eqb x q && ltb q state_limit))) → Put fresh p with fresh'
       → PairBegun test outs p q square fresh (set square (place p q) 0) fresh'
   pair_apart says small size lp lq is P = record {
@@ -77,7 +78,7 @@ module _ {test : Test} {outs : List ℕ} {p q : ℕ} {square fresh : List ℕ} w
     noted = record { size = refl; here = λ x. rw (says, and-false (eqb x q)) (sym (or-false (set_at fresh p x))); elsewhere = λ j x ne. refl };
   }
 
-module _ (n : ℕ) {p : ℕ} (fresh : List ℕ) {alike alike' : List ℕ} {apart left : ℕ → Bool} (lp : p < state_limit) (is : (q : ℕ) → apart q ≡ set_at fresh p q)
+module _ (n : ℕ) {p : ℕ} (fresh : List StateSet) {alike alike' : List StateSet} {apart left : ℕ → Bool} (lp : p < state_limit) (is : (q : ℕ) → apart q ≡ set_at fresh p q)
     (il : (q : ℕ) → left q ≡ ((ltb q n && not (apart q)) && not (eqb q p && ltb p state_limit))) (P : Put alike p left alike') where
   others : Put alike p (λ q. (ltb q n && not (set_at fresh p q)) && not (eqb q p)) alike'
   others = record {
@@ -102,13 +103,13 @@ module _ (n : ℕ) {p : ℕ} (fresh : List ℕ) {alike alike' : List ℕ} {apart
 
 -- ---- one pair more, one row more
 
-module _ {test : Test} {outs : List ℕ} (small : length outs ≤ state_limit) {p k : ℕ} (lp : p < length outs) {square alike fresh : List ℕ} {rows : ℕ → Bool}
+module _ {test : Test} {outs : List ℕ} (small : length outs ≤ state_limit) {p k : ℕ} (lp : p < length outs) {square : List ℕ} {alike fresh : List StateSet} {rows : ℕ → Bool}
     (b : Begun test outs p k square alike fresh rows) where
   abbrev n : ℕ
   n = length outs
 
   -- the pair p q, which is pair k of the pass
-  module _ {q : ℕ} (lq : q < n) (is : p * n + q ≡ k) {square' fresh' : List ℕ} (P : PairBegun test outs p q square fresh square' fresh') where
+  module _ {q : ℕ} (lq : q < n) (is : p * n + q ≡ k) {square' : List ℕ} {fresh' : List StateSet} (P : PairBegun test outs p q square fresh square' fresh') where
     -- of the entries and the fresh states, only those of the pair change
     entry_kept : (x y : ℕ) → x < n → y < n → (x ≡ p → y ≡ q → ⊥) → entry square' x y ≡ entry square x y
     entry_kept x y lx ly ne =
@@ -186,7 +187,7 @@ module _ {test : Test} {outs : List ℕ} (small : length outs ≤ state_limit) {
     }
 
   -- the end of row p
-  module _ {alike' : List ℕ} {rows' : ℕ → Bool} (R : RowDone n p fresh alike rows alike' rows') where
+  module _ {alike' : List StateSet} {rows' : ℕ → Bool} (R : RowDone n p fresh alike rows alike' rows') where
     below : {x : ℕ} → x < p + 1 → (x ≡ p → ⊥) → x < p
     below {x} l ne = ⊎_elim (λ (h : x < p). h) (λ h. absurd (ne (omega (arith, h, l)))) (lt_or_le x p)
 
@@ -248,16 +249,16 @@ module _ {test : Test} {outs : List ℕ} (small : length outs ≤ state_limit) {
 -- ---- the pass
 
 -- a pass that is at a pair, and has done the pairs and the rows before it
-pub record Walking (test : Test) (outs : List ℕ) (at : Position) (square alike fresh : List ℕ) (rows : ℕ → Bool) : Type 0 where
+pub record Walking (test : Test) (outs : List ℕ) (at : Position) (square : List ℕ) (alike fresh : List StateSet) (rows : ℕ → Bool) : Type 0 where
   pub most : at.number ≤ length outs * length outs
   pub on : On (length outs) at
   pub begun : Begun test outs at.row at.number square alike fresh rows
 
-pub walking_none : {test : Test} {outs square alike fresh : List ℕ} {rows : ℕ → Bool} {at : Position} → Begun test outs 0 0 square alike fresh rows
+pub walking_none : {test : Test} {outs square : List ℕ} {alike fresh : List StateSet} {rows : ℕ → Bool} {at : Position} → Begun test outs 0 0 square alike fresh rows
     → at ≡ start → Walking test outs at square alike fresh rows
 walking_none b e = rw e (record { most = zero-le; on = on_start; begun = b })
 
-module _ {test : Test} {outs : List ℕ} {at : Position} {square alike fresh : List ℕ} {rows : ℕ → Bool} (W : Walking test outs at square alike fresh rows) where
+module _ {test : Test} {outs : List ℕ} {at : Position} {square : List ℕ} {alike fresh : List StateSet} {rows : ℕ → Bool} (W : Walking test outs at square alike fresh rows) where
   pub walking_over : length outs * length outs ≤ at.number → Begun test outs (length outs) (length outs * length outs) square alike fresh rows
   walking_over l =
       let m = W.most in
@@ -272,7 +273,7 @@ module _ {test : Test} {outs : List ℕ} {at : Position} {square alike fresh : L
     pub walking_less : length outs * length outs - after.number < length outs * length outs - at.number
     walking_less = rw by_step (omega (arith, l))
 
-    module _ (small : length outs ≤ state_limit) {square' fresh' : List ℕ} (P : PairBegun test outs at.row at.column square fresh square' fresh') where
+    module _ (small : length outs ≤ state_limit) {square' : List ℕ} {fresh' : List StateSet} (P : PairBegun test outs at.row at.column square fresh square' fresh') where
       more : Begun test outs at.row (at.number + 1) square' alike fresh' rows
       more = begun_pair small (on_row W.on l) W.begun (on_column W.on l) (on_numbered W.on l) P
 
@@ -285,7 +286,7 @@ module _ {test : Test} {outs : List ℕ} {at : Position} {square alike fresh : L
       })
 
       -- to the next row
-      pub walking_down : at.column + 1 ≡ length outs → {alike' : List ℕ} {rows' : ℕ → Bool} → RowDone (length outs) at.row fresh' alike rows alike' rows'
+      pub walking_down : at.column + 1 ≡ length outs → {alike' : List StateSet} {rows' : ℕ → Bool} → RowDone (length outs) at.row fresh' alike rows alike' rows'
           → Walking test outs after square' alike' fresh' rows'
       walking_down e R = rw by_step (record {
         most = omega (arith, l);

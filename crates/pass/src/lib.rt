@@ -13,7 +13,7 @@ ghost use Rattle.pass.specs.Begun.{Begun, PairBegun, RowDone};
 
 use rows::{Fresh, Search};
 use square::Test;
-use state_set::{StateSet, WORDS};
+use state_set::StateSet;
 use theory::{SQUARE_SIZE, STATE_LIMIT};
 
 // Where a pass is: the row, the column and the number of a pair, from 0. After the last pair of n states the row is n.
@@ -77,22 +77,20 @@ fn begin_pair(
 {
     if test.passes(outputs, p, q) {
         square[p * STATE_LIMIT + q] = 0;
-        StateSet::read(&fresh.sets, p)
-            .with(q)
-            .write(&mut fresh.sets, p);
+        fresh.sets[p] = fresh.sets[p].with(q);
     }
 }
 
 // Sets the states alike to p, once its fresh ones are known: all others, p itself left out. Where p has a fresh state
 // it becomes one of the rows that have.
-fn end_row(alike: &mut [u64; STATE_LIMIT * WORDS], fresh: &mut Fresh, all: StateSet, p: usize)
+fn end_row(alike: &mut [StateSet; STATE_LIMIT], fresh: &mut Fresh, all: StateSet, p: usize)
     requires { p < state_limit }
     ensures done { (n : ℕ) → ((q : ℕ) → member all q ≡ ltb q n)
         → RowDone n p fresh.old.sets alike.old (member fresh.old.rows) alike.new (member fresh.new.rows) }
     ensures fresh { fresh.new.sets ≡ fresh.old.sets }
 {
-    let apart = StateSet::read(&fresh.sets, p);
-    all.minus(apart).without(p).write(alike, p);
+    let apart = fresh.sets[p];
+    alike[p] = all.minus(apart).without(p);
     if apart.is_empty() {
         return;
     }

@@ -10,6 +10,7 @@ use Rattle.theory.specs.Below.{any}
 use Rattle.theory.specs.Automaton.{Automaton, Closed, Trace, run, Reaches, leads, reached_from}
 use Rattle.theory.proofs.Below.{clash, is_true, both_ways, or_cases, or_left, or_right, and_left, and_right, and_both, any_at, any_find}
 use Rattle.theory.proofs.Reach.{Hits, hits_here, hits_step, run_append, trace_append, leads_sound, leads_complete, reached_sound, reached_complete}
+use Rattle.state_set.specs.declared.StateSet.{StateSet}
 use Rattle.state_set.specs.Member.{set_at}
 use Rattle.reach.specs.Closure.{leads_to, Joined}
 use Rattle.reach.proofs.Predecessors.{Preceding}
@@ -118,7 +119,7 @@ module _ {g : Automaton} (c : Closed g) (f : ℕ → Bool) where
       (λ b. there q (ltb-true q g.states (and_left (ltb q g.states) (test q) b)) (and_right (ltb q g.states) (test q) b))
       (or_cases (f q) (ltb q g.states && test q) t)
 
-  pub joined_leads : {sets : List ℕ} {wide : ℕ → Bool} → Preceding g sets → Joined g.states (set_at sets) f wide
+  pub joined_leads : {sets : List StateSet} {wide : ℕ → Bool} → Preceding g sets → Joined g.states (set_at sets) f wide
       → (q : ℕ) → wide q ≡ (f q || (ltb q g.states && leads g f q))
   unfolding Trace run
   joined_leads {sets} {wide} P w q =

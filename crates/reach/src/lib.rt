@@ -10,7 +10,7 @@ ghost use Rattle.monitor.specs.Graph.{automaton};
 ghost use Rattle.reach.specs.Closure.{leads_to, Joined, Reaching};
 
 use monitor::Graph;
-use state_set::{StateSet, WORDS};
+use state_set::StateSet;
 use theory::STATE_LIMIT;
 
 // The states from which one set can be reached, and those from which another can.
@@ -69,10 +69,10 @@ pub fn reaching(graph: &Graph, one: StateSet, other: StateSet) -> Sources
     ensures one { Reaching (automaton graph.now) one result.one }
     ensures other { Reaching (automaton graph.now) other result.other }
 {
-    let mut sets = [0u64; STATE_LIMIT * WORDS];
+    let mut sets = [StateSet::empty(); STATE_LIMIT];
     let next = |p, a| graph.successor(p, a);
     state_set::put_each(&mut sets, graph.states, graph.symbols, next);
-    let predecessors = |q| StateSet::read(&sets, q);
+    let predecessors = |q| sets[q];
     Sources {
         one: expand(graph.states, one, predecessors),
         other: expand(graph.states, other, predecessors),

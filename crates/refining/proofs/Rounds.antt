@@ -15,14 +15,14 @@ use Rattle.theory.specs.Monitor.{state_limit}
 use Rattle.theory.specs.Pairs.{told}
 use Rattle.theory.proofs.Below.{clash, not_clash, lt_or_le, same_or_not, or_cases, and_left, and_right, count_more}
 use Rattle.state_set.specs.declared.StateSet.{StateSet}
-use Rattle.state_set.specs.Member.{member, Exactly}
+use Rattle.state_set.specs.Member.{member, Exactly, no_states, set_at}
 use Rattle.opening.specs.Marks.{has_mark}
 use Rattle.square.specs.declared.Test.TheVariants.{Differ}
 use Rattle.square.specs.Square.{never, HasRows, entry, Squared, Stage, passing}
 use Rattle.square.proofs.Stage.{told_by, stage_entry, stage_told, stage_near, stage_next, stage_last}
 use Rattle.rows.specs.Sets.{Into, Within}
 use Rattle.partition.specs.declared.Blocks.{Blocks}
-use Rattle.partition.specs.Blocks.{block, no_states, in_set, Partition, Finer, Parted, Parts, Stable, Divided}
+use Rattle.partition.specs.Blocks.{block, Partition, Finer, Parted, Parts, Stable, Divided}
 use Rattle.partition.proofs.Splits.{finer_none, finer_as, finer_then, stable_later}
 use Rattle.refining.specs.Refined.{Unlike, LeadsApart, Alone, Only, Inside, Refined}
 
@@ -180,7 +180,7 @@ alone_more {n} {blocks = blocks} {some} {more} P A O is = record {
 
 -- the blocks before c are looked at
 pub only_more : {c : ℕ} {blocks : Blocks} {some block single all : ℕ → Bool} → c < blocks.count
-    → ((p : ℕ) → p < state_limit → some p ≡ true → Only blocks p) → ((q : ℕ) → block q ≡ in_set blocks.members c q)
+    → ((p : ℕ) → p < state_limit → some p ≡ true → Only blocks p) → ((q : ℕ) → block q ≡ set_at blocks.members c q)
     → ((p : ℕ) → single p ≡ true → block p ≡ true)
     → ((p q : ℕ) → p < state_limit → q < state_limit → single p ≡ true → block q ≡ true → p ≡ q)
     → ((q : ℕ) → all q ≡ (some q || single q)) → (p : ℕ) → p < state_limit → all p ≡ true → Only blocks p
@@ -211,8 +211,8 @@ only_one block e p q lp lq tp tq = ⊎_elim (λ h. h) (λ ne. absurd (omega (ari
 
 -- the sets from `old` to c are copied
 pub copied_more : (members splitters : List StateSet) (x : StateSet) {old c : ℕ} → c < length splitters
-    → ((e q : ℕ) → old ≤ e → e < c → in_set splitters e q ≡ in_set members e q)
-    → ((q : ℕ) → member x q ≡ in_set members c q) → (e q : ℕ) → old ≤ e → e < c + 1 → in_set (set splitters c x) e q ≡ in_set members e q
+    → ((e q : ℕ) → old ≤ e → e < c → set_at splitters e q ≡ set_at members e q)
+    → ((q : ℕ) → member x q ≡ set_at members c q) → (e q : ℕ) → old ≤ e → e < c + 1 → set_at (set splitters c x) e q ≡ set_at members e q
 copied_more members splitters x {c = c} lc before is e q lo l =
     ⊎_elim
     (λ (z : e ≡ c). rw z (rw (get_or-set_same splitters c x no_states lc) (is q)))
@@ -221,7 +221,7 @@ copied_more members splitters x {c = c} lc before is e q lo l =
     (same_or_not e c)
 
 pub block_within : {n c : ℕ} {square : List ℕ} {blocks : Blocks} {set : ℕ → Bool} → Partition n square blocks → c < blocks.count
-    → ((q : ℕ) → set q ≡ in_set blocks.members c q) → Within n set
+    → ((q : ℕ) → set q ≡ set_at blocks.members c q) → Within n set
 block_within {n} {c} {blocks = blocks} P lc is = record {
   at = λ q t. ltb-true q n (and_left (ltb q n) (eqb (block blocks q) c) (sym (is q ∙ P.members_are c q lc) ∙ t));
 }
@@ -251,7 +251,7 @@ module _ {g : Automaton} {ends : ℕ → ℕ → Bool} {r old : ℕ} {square₀ 
       omega (arith, e, z, fits)
 
   module _ {c : ℕ} {square : List ℕ} {blocks : Blocks} (R : Refining g ends r old square₀ blocks₀ c square blocks) where
-    pub refining_more : {set : ℕ → Bool} {square' : List ℕ} {blocks' : Blocks} → c < blocks₀.count → ((q : ℕ) → set q ≡ in_set blocks₀.members c q)
+    pub refining_more : {set : ℕ → Bool} {square' : List ℕ} {blocks' : Blocks} → c < blocks₀.count → ((q : ℕ) → set q ≡ set_at blocks₀.members c q)
         → Finer g.states (r + 1) (LeadsApart g set) square blocks square' blocks'
         → ((a : ℕ) → a < g.symbols → Stable g.states (λ q. set (g.next q a)) blocks')
         → Refining g ends r old square₀ blocks₀ (c + 1) square' blocks'

@@ -4,7 +4,8 @@ use Rattle.theory.specs.Automaton.{Automaton}
 use Rattle.theory.specs.Monitor.{state_limit}
 use Rattle.square.specs.Square.{entry, Stage}
 use Rattle.partition.specs.declared.Blocks.{Blocks}
-use Rattle.partition.specs.Blocks.{block, in_set, Parts}
+use Rattle.state_set.specs.Member.{set_at}
+use Rattle.partition.specs.Blocks.{block, Parts}
 
 -- the outputs of two states differ
 abbrev pub Unlike : List ℕ → ℕ → ℕ → Type 0
@@ -22,8 +23,8 @@ pub record Alone (n : ℕ) (set : ℕ → Bool) (blocks : Blocks) : Type 0 where
 pub record Only (blocks : Blocks) (p : ℕ) : Type 0 where
   pub number : ℕ
   pub below : number < blocks.count
-  pub here : in_set blocks.members number p ≡ true
-  pub sole : (q : ℕ) → q < state_limit → in_set blocks.members number q ≡ true → p ≡ q
+  pub here : set_at blocks.members number p ≡ true
+  pub sole : (q : ℕ) → q < state_limit → set_at blocks.members number q ≡ true → p ≡ q
 
 -- each block lies in one of the blocks before
 pub record Inside (n : ℕ) (blocks blocks' : Blocks) : Type 0 where

@@ -4,13 +4,13 @@
 
 ghost use Rattle.std.specs.Prelude.{◌≡◌, Bool, true, ℕ, suc, ◌+◌, ◌≤◌, ◌<◌, length, get_or};
 ghost use Rattle.theory.specs.Monitor.{state_limit};
-ghost use Rattle.state_set.specs.Member.{member, Exactly};
+ghost use Rattle.state_set.specs.Member.{member, Exactly, set_at};
 ghost use Rattle.monitor.specs.Graph.{automaton};
 ghost use Rattle.opening.specs.Marks.{has_mark};
 ghost use Rattle.square.specs.declared.Test.TheVariants.{Differ};
 ghost use Rattle.square.specs.Square.{never, Blank, Squared, passing};
 ghost use Rattle.rows.specs.Sets.{Into, Within};
-ghost use Rattle.partition.specs.Blocks.{block, in_set, Partition, Finer, Stable};
+ghost use Rattle.partition.specs.Blocks.{block, Partition, Finer, Stable};
 ghost use Rattle.refining.specs.Refined.{Unlike, LeadsApart, Alone, Only, Inside, Refined};
 
 use monitor::Graph;
@@ -123,7 +123,7 @@ fn single(block: StateSet) -> StateSet
 fn copy(blocks: &Blocks, splitters: &mut [StateSet; STATE_LIMIT], old: usize)
     requires { blocks.now.count ≤ state_limit }
     ensures { (c q : ℕ) → old ≤ c → c < blocks.now.count
-        → in_set splitters.new c q ≡ in_set blocks.now.members c q }
+        → set_at splitters.new c q ≡ set_at blocks.now.members c q }
 {
     for c in old..blocks.count {
         splitters[c] = blocks.states_of(c);
@@ -160,7 +160,7 @@ fn refine(
 // are in one block at the end.
 pub fn enter(
     square: &mut [u16; SQUARE_SIZE],
-    area: &mut [u64; PREDECESSORS],
+    area: &mut [StateSet; PREDECESSORS],
     graph: &Graph,
     outputs: &[u8],
 ) -> Blocks

@@ -12,6 +12,7 @@ use Rattle.theory.specs.Automaton.{Automaton, Closed}
 use Rattle.theory.specs.Pairs.{told}
 use Rattle.theory.proofs.Below.{clash, not_clash, lt_or_le, and_left, and_right, and_both}
 use Rattle.theory.proofs.Pairs.{told_up, told_settled}
+use Rattle.state_set.specs.declared.StateSet.{StateSet}
 use Rattle.state_set.specs.Member.{set_at}
 use Rattle.square.specs.Square.{never, entry, Squared}
 use Rattle.square.proofs.Stage.{told_by, stage_told, stage_near, stage_next, stage_last}
@@ -21,9 +22,9 @@ use Rattle.rounds.specs.Layers.{Layer}
 
 -- ---- a round
 
-module _ {g : Automaton} {ends : ℕ → ℕ → Bool} {r : ℕ} {square alike fresh : List ℕ} {rows : ℕ → Bool} (L : Layer g ends r square alike fresh rows) where
+module _ {g : Automaton} {ends : ℕ → ℕ → Bool} {r : ℕ} {square : List ℕ} {alike fresh : List StateSet} {rows : ℕ → Bool} (L : Layer g ends r square alike fresh rows) where
   -- before the round no pair is at r + 1
-  pub layer_begins : {next active : List ℕ} → r + 1 < never → Empty g.states next → Active g.states alike active
+  pub layer_begins : {next active : List StateSet} → r + 1 < never → Empty g.states next → Active g.states alike active
       → Midway g ends r (λ p q a. false) square alike next active (λ p. false)
   layer_begins {next} fits N O = record {
     active_rows = O;
@@ -62,7 +63,7 @@ module _ {g : Automaton} {ends : ℕ → ℕ → Bool} {r : ℕ} {square alike f
   }
 
   -- the round is over when each row with each symbol that leads to a row with a fresh pair is done
-  pub layer_next : {done : ℕ → ℕ → ℕ → Bool} {square' alike' next active : List ℕ} {rows' : ℕ → Bool} → Closed g
+  pub layer_next : {done : ℕ → ℕ → ℕ → Bool} {square' : List ℕ} {alike' next active : List StateSet} {rows' : ℕ → Bool} → Closed g
       → Midway g ends r done square' alike' next active rows'
       → ((p q a : ℕ) → p < g.states → q < g.states → a < g.symbols → rows (g.next p a) ≡ true → done p q a ≡ true)
       → Layer g ends (suc r) square' alike' next rows'

@@ -3,17 +3,17 @@ use mathlib.Core.Path.{◌≡◌, refl, sym, ◌∙◌}
 use mathlib.Core.Bool.{Bool, true, false, not, ◌&&◌, ◌||◌, and-true}
 use mathlib.Core.List.{List}
 use mathlib.Core.Logic.{inl, inr, ⊎_elim}
-use Prim.Native.Nat.{ℕ, suc, ◌+◌, ◌-◌, ◌*◌, ◌/◌, ◌^◌, ◌≤◌, ◌<◌, zero-le}
+use Prim.Native.Nat.{ℕ, suc, ◌+◌, ◌*◌, ◌/◌, ◌≤◌, ◌<◌, zero-le}
 use native.Mathlib.Omega.{arith}
 use lib.Dec.{eqb, ltb}
-use lib.ListN.{length, get_or}
+use lib.ListN.{length}
 use borrow.Author.Tests.{eq-eqb, eqb-true, eqb-false, lt-ltb, le-ltb, ltb-true}
 use Rattle.theory.specs.Automaton.{Automaton}
 use Rattle.theory.specs.Monitor.{state_limit, symbol_limit}
 use Rattle.theory.proofs.Below.{clash, not_clash, lt_or_le, or_cases, or_left, or_right, and_left, and_right, and_both}
+use Rattle.state_set.specs.declared.StateSet.{StateSet}
 use Rattle.state_set.specs.Member.{is_part, set_at, Put}
 use Rattle.state_set.specs.Taking.{Taken}
-use Rattle.state_set.proofs.Words.{words_full}
 use Rattle.square.specs.Square.{never, entry}
 use Rattle.rows.specs.Sets.{Empty, Preceding, Active}
 use Rattle.rows.specs.Midway.{Ground, Front, Midway, GoesAt, set_done}
@@ -24,26 +24,25 @@ use Rattle.rounds.specs.Layers.{Layer, symbol_done, block_done, part_done, state
 use Rattle.rounds.proofs.Layers.{layer_begins, layer_front, layer_next}
 
 -- a predecessor is a state
-pub predecessor_in : {g : Automaton} {sets : List ℕ} → Preceding g (λ p a. ltb p g.states) sets → (x a p : ℕ) → x < g.states → a < g.symbols
+pub predecessor_in : {g : Automaton} {sets : List StateSet} → Preceding g (λ p a. ltb p g.states) sets → (x a p : ℕ) → x < g.states → a < g.symbols
     → set_at sets (x * symbol_limit + a) p ≡ true → p < g.states
 predecessor_in {g} P x a p lx la t = ltb-true p g.states (and_left (ltb p g.states) (eqb (g.next p a) x) (sym (P.at x a p lx la) ∙ t))
 
 -- at first every row is active
-pub active_first : {g : Automaton} {ends : ℕ → ℕ → Bool} {r : ℕ} {square alike fresh : List ℕ} {rows : ℕ → Bool} → Layer g ends r square alike fresh rows
-    → g.states ≤ state_limit → (active : List ℕ) → ((i : ℕ) → i < 4 → get_or active i 0 ≡ 2 ^ 64 - 1) → Active g.states alike active
+pub active_first : {g : Automaton} {ends : ℕ → ℕ → Bool} {r : ℕ} {square : List ℕ} {alike fresh : List StateSet} {rows : ℕ → Bool} → Layer g ends r square alike fresh rows
+    → g.states ≤ state_limit → (active : List StateSet) → ((w p : ℕ) → w < 2 → p < g.states → set_at active w p ≡ true) → Active g.states alike active
 active_first {g} {square = square} L few active full = record {
   at = λ p q lp t.
       let h = and_left (ltb q g.states && not (eqb q p)) (eqb (entry square p q) never) (sym (L.kept.alike_is p q lp) ∙ t) in
       let lq = ltb-true q g.states (and_left (ltb q g.states) (not (eqb q p)) h) in
-      rw (full (q / 64 * 2) (omega (arith, lq, few)), full (q / 64 * 2 + 1) (omega (arith, lq, few)), lt-ltb p 128 (omega (arith, lp, few)))
-      (words_full p (omega (arith, lp, few)));
+      full (q / 64) p (omega (arith, lq, few)) lp;
 }
 
 -- ---- one symbol
 
 -- the active rows of part v from which a leads to x are those of the set, and they are done in the columns of part w
-pub symbol_done_lem : {g : Automaton} (x a v w : ℕ) {r : ℕ} {front : ℕ → Bool} {sets square₀ alike₀ next₀ active₀ : List ℕ} {rows₀ : ℕ → Bool} (set : ℕ → Bool)
-    {square alike next active : List ℕ} {rows : ℕ → Bool} → x < g.states → a < g.symbols
+pub symbol_done_lem : {g : Automaton} (x a v w : ℕ) {r : ℕ} {front : ℕ → Bool} {sets : List StateSet} {square₀ : List ℕ} {alike₀ next₀ active₀ : List StateSet} {rows₀ : ℕ → Bool} (set : ℕ → Bool)
+    {square : List ℕ} {alike next active : List StateSet} {rows : ℕ → Bool} → x < g.states → a < g.symbols
     → ((p : ℕ) → set p ≡ ((is_part v p && set_at sets (x * symbol_limit + a) p) && (is_part v p && set_at active₀ w p)))
     → GoesAt g r x front (set_done (is_part w) set a) sets square₀ alike₀ next₀ active₀ rows₀ square alike next active rows
     → GoesAt g r x front (symbol_done g x (is_part v) (is_part w) a) sets square₀ alike₀ next₀ active₀ rows₀ square alike next active rows
@@ -72,12 +71,12 @@ symbol_done_lem {g} x a v w {sets = sets} {active₀ = active₀} set lx la is s
 
 -- ---- one block
 
-module _ {g : Automaton} (x v w : ℕ) {r : ℕ} {front : ℕ → Bool} {sets square₀ alike₀ next₀ active₀ : List ℕ} {rows₀ : ℕ → Bool} where
+module _ {g : Automaton} (x v w : ℕ) {r : ℕ} {front : ℕ → Bool} {sets : List StateSet} {square₀ : List ℕ} {alike₀ next₀ active₀ : List StateSet} {rows₀ : ℕ → Bool} where
   pub block_begins : GoesAt g r x front (block_done g x (is_part v) (is_part w) 0) sets square₀ alike₀ next₀ active₀ rows₀ square₀ alike₀ next₀ active₀ rows₀
   block_begins = goes_nowhere (block_done g x (is_part v) (is_part w) 0) (λ p q b lp t.
       clash (and_right (eqb (g.next p b) x) (ltb b 0) (and_right (is_part v p && is_part w q) (eqb (g.next p b) x && ltb b 0) t)) (le-ltb b 0 zero-le))
 
-  pub block_more : (a : ℕ) {square alike next active square' alike' next' active' : List ℕ} {rows rows' : ℕ → Bool}
+  pub block_more : (a : ℕ) {square : List ℕ} {alike next active : List StateSet} {square' : List ℕ} {alike' next' active' : List StateSet} {rows rows' : ℕ → Bool}
       → GoesAt g r x front (block_done g x (is_part v) (is_part w) a) sets square₀ alike₀ next₀ active₀ rows₀ square alike next active rows
       → GoesAt g r x front (symbol_done g x (is_part v) (is_part w) a) sets square alike next active rows square' alike' next' active' rows'
       → GoesAt g r x front (block_done g x (is_part v) (is_part w) (a + 1)) sets square₀ alike₀ next₀ active₀ rows₀ square' alike' next' active' rows'
@@ -101,14 +100,14 @@ abbrev pub done_below : (ℕ → ℕ → ℕ) → (ℕ → ℕ → ℕ → Bool)
 done_below state all v p q b = ltb (state p q / 64) v && all p q b
 
 -- part by part, all is done
-module _ {g : Automaton} {r x : ℕ} {front : ℕ → Bool} {sets square₀ alike₀ next₀ active₀ : List ℕ} {rows₀ : ℕ → Bool}
+module _ {g : Automaton} {r x : ℕ} {front : ℕ → Bool} {sets : List StateSet} {square₀ : List ℕ} {alike₀ next₀ active₀ : List StateSet} {rows₀ : ℕ → Bool}
     (each : ℕ → ℕ → ℕ → ℕ → Bool) (all : ℕ → ℕ → ℕ → Bool) (state : ℕ → ℕ → ℕ) where
   pub parts_begin : GoesAt g r x front (done_below state all 0) sets square₀ alike₀ next₀ active₀ rows₀ square₀ alike₀ next₀ active₀ rows₀
   parts_begin = goes_nowhere (done_below state all 0)
       (λ p q b lp t. clash (and_left (ltb (state p q / 64) 0) (all p q b) t) (le-ltb (state p q / 64) 0 zero-le))
 
   pub parts_more : ((v p q b : ℕ) → is_part v (state p q) ≡ true → all p q b ≡ true → each v p q b ≡ true) → (v : ℕ)
-      → {square alike next active square' alike' next' active' : List ℕ} {rows rows' : ℕ → Bool}
+      → {square : List ℕ} {alike next active : List StateSet} {square' : List ℕ} {alike' next' active' : List StateSet} {rows rows' : ℕ → Bool}
       → GoesAt g r x front (done_below state all v) sets square₀ alike₀ next₀ active₀ rows₀ square alike next active rows
       → GoesAt g r x front (each v) sets square alike next active rows square' alike' next' active' rows'
       → GoesAt g r x front (done_below state all (v + 1)) sets square₀ alike₀ next₀ active₀ rows₀ square' alike' next' active' rows'
@@ -121,7 +120,7 @@ module _ {g : Automaton} {r x : ℕ} {front : ℕ → Bool} {sets square₀ alik
       (λ k. or_right (done_below state all v p q b) (each v p q b) (in_each v p q b (eq-eqb z v (omega (arith, k, l))) h))
       (lt_or_le z v))
 
-  pub parts_end : (v : ℕ) → ((p q : ℕ) → p < g.states → q < g.states → state p q / 64 < v) → {square alike next active : List ℕ} {rows : ℕ → Bool}
+  pub parts_end : (v : ℕ) → ((p q : ℕ) → p < g.states → q < g.states → state p q / 64 < v) → {square : List ℕ} {alike next active : List StateSet} {rows : ℕ → Bool}
       → GoesAt g r x front (done_below state all v) sets square₀ alike₀ next₀ active₀ rows₀ square alike next active rows
       → GoesAt g r x front all sets square₀ alike₀ next₀ active₀ rows₀ square alike next active rows
   parts_end v past before = goes_less all before
@@ -148,14 +147,14 @@ front_same F e = record {
 }
 
 -- the rows that lead to a state which is in the set and not left are done; the fresh states of those left are as they were
-pub record Spreading (g : Automaton) (ends : ℕ → ℕ → Bool) (r : ℕ) (rows left : ℕ → Bool) (fresh₀ fresh square alike next active : List ℕ)
+pub record Spreading (g : Automaton) (ends : ℕ → ℕ → Bool) (r : ℕ) (rows left : ℕ → Bool) (fresh₀ fresh : List StateSet) (square : List ℕ) (alike next active : List StateSet)
     (found : ℕ → Bool) : Type 0 where
   pub midway : Midway g ends r (λ p q a. rows (g.next p a) && not (left (g.next p a))) square alike next active found
-  pub size : g.states * 2 ≤ length fresh
+  pub size : g.states ≤ length fresh
   pub within : (x : ℕ) → left x ≡ true → rows x ≡ true
   pub fresh_left : (x q : ℕ) → x < g.states → set_at fresh x q ≡ (left x && set_at fresh₀ x q)
 
-module _ {g : Automaton} {ends : ℕ → ℕ → Bool} {r : ℕ} {square₀ alike₀ fresh₀ : List ℕ} {rows : ℕ → Bool} {sets : List ℕ} (G : Ground g ends sets)
+module _ {g : Automaton} {ends : ℕ → ℕ → Bool} {r : ℕ} {square₀ : List ℕ} {alike₀ fresh₀ : List StateSet} {rows : ℕ → Bool} {sets : List StateSet} (G : Ground g ends sets)
     (L : Layer g ends r square₀ alike₀ fresh₀ rows) where
   -- the rows that are below the number of states are all the rows
   pub rows_below : (all left : ℕ → Bool) → ((q : ℕ) → all q ≡ ltb q g.states) → ((q : ℕ) → left q ≡ (rows q && all q)) → (q : ℕ) → left q ≡ rows q
@@ -165,7 +164,7 @@ module _ {g : Automaton} {ends : ℕ → ℕ → Bool} {r : ℕ} {square₀ alik
       go true e = ia q ∙ lt-ltb q g.states (L.kept.rows_some q e).0
       go false e = refl
 
-  pub spreading_begins : {left : ℕ → Bool} {next active : List ℕ} {found : ℕ → Bool} → ((q : ℕ) → left q ≡ rows q)
+  pub spreading_begins : {left : ℕ → Bool} {next active : List StateSet} {found : ℕ → Bool} → ((q : ℕ) → left q ≡ rows q)
       → r + 1 < never → Empty g.states next → Active g.states alike₀ active
       → ((p : ℕ) → found p ≡ false) → Spreading g ends r rows left fresh₀ fresh₀ square₀ alike₀ next active found
   spreading_begins {left} {next} {active} {found} il fits N A none = record {
@@ -189,7 +188,7 @@ module _ {g : Automaton} {ends : ℕ → ℕ → Bool} {r : ℕ} {square₀ alik
       M : Midway g ends r (λ p q a. false) square₀ alike₀ next active (λ p. false)
       M = layer_begins L fits N A
 
-  module _ {left : ℕ → Bool} {fresh square alike next active : List ℕ} {found : ℕ → Bool}
+  module _ {left : ℕ → Bool} {fresh : List StateSet} {square : List ℕ} {alike next active : List StateSet} {found : ℕ → Bool}
       (S : Spreading g ends r rows left fresh₀ fresh square alike next active found) where
     module _ {x : ℕ} {left' : ℕ → Bool} (T : Taken state_limit left x left') where
       row_in : x < g.states
@@ -205,7 +204,7 @@ module _ {g : Automaton} {ends : ℕ → ℕ → Bool} {r : ℕ} {square₀ alik
           (λ l. rw (le-ltb y g.states l, L.kept.fresh_is x y row_in, le-ltb y g.states l))
           (lt_or_le y g.states))
 
-      pub spreading_more : (all : ℕ → Bool) {k : ℕ} {front none : ℕ → Bool} {fresh' square' alike' next' active' : List ℕ} {found' : ℕ → Bool} →
+      pub spreading_more : (all : ℕ → Bool) {k : ℕ} {front none : ℕ → Bool} {fresh' : List StateSet} {square' : List ℕ} {alike' next' active' : List StateSet} {found' : ℕ → Bool} →
           g.symbols ≡ k
           → ((q : ℕ) → all q ≡ ltb q g.states) → ((q : ℕ) → front q ≡ (set_at fresh x q && all q))
           → ((q : ℕ) → none q ≡ false) → Put fresh x none fresh'

@@ -1,14 +1,15 @@
 -- A round, from the pairs at distance r to those at r + 1: what holds before and after it, and what is done at a time.
 use Rattle.std.specs.Prelude.{Bool, ◌&&◌, List, ℕ, ◌<◌, eqb, ltb}
 use Rattle.theory.specs.Automaton.{Automaton}
+use Rattle.state_set.specs.declared.StateSet.{StateSet}
 use Rattle.square.specs.Square.{entry, Stage}
 use Rattle.rows.specs.Sets.{Kept}
 
 -- before the round after r: every pair has had r rounds, and the fresh ones are at r
-pub record Layer (g : Automaton) (ends : ℕ → ℕ → Bool) (r : ℕ) (square alike fresh : List ℕ) (rows : ℕ → Bool) : Type 0
-  where
-    pub kept : Kept g.states r g.states square alike fresh rows
-    pub stage : (p q : ℕ) → p < g.states → q < g.states → Stage g ends r p q (entry square p q)
+pub record Layer (g : Automaton) (ends : ℕ → ℕ → Bool) (r : ℕ) (square : List ℕ) (alike fresh : List StateSet)
+    (rows : ℕ → Bool) : Type 0 where
+  pub kept : Kept g.states r g.states square alike fresh rows
+  pub stage : (p q : ℕ) → p < g.states → q < g.states → Stage g ends r p q (entry square p q)
 
 -- ---- what is done at a time
 

@@ -33,7 +33,7 @@ impl Front<'_, '_> {
         ensures { Adds self.now (symbol_of self.now v w a) search.old next.old search.new next.new }
     {
         let leading = self.predecessors.part_of(self.row, a, v);
-        let left = leading & state_set::word_at(&search.active, w, v);
+        let left = leading & search.active[w].part(v);
         if left == 0 {
             return;
         }

@@ -15,7 +15,7 @@ use state_set::StateSet;
 
 mod front;
 
-pub use front::Front;
+use front::Front;
 
 // The round after r: from the fresh pairs, which are at r, to those at r + 1, each fresh pair once. No pair is fresh
 // afterwards but those at r + 1, which are next.
@@ -40,8 +40,8 @@ pub fn spread(
     let rows = fresh.rows.intersection(predecessors.all);
     fresh.rows = StateSet::empty();
     for row in rows.states() {
-        let states = StateSet::read(&fresh.sets, row).intersection(predecessors.all);
-        StateSet::empty().write(&mut fresh.sets, row);
+        let states = fresh.sets[row].intersection(predecessors.all);
+        fresh.sets[row] = StateSet::empty();
         let front = Front {
             predecessors: *predecessors,
             row,

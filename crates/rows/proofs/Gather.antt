@@ -1,20 +1,21 @@
 -- Sets gathered state by state: predecessors, and what leads into a set; entries of a row made one by one.
 use mathlib.Core.Path.{◌≡◌, refl, sym, ◌∙◌}
-use mathlib.Core.Bool.{Bool, true, false, cond, not, ◌&&◌, ◌||◌, and-false}
+use mathlib.Core.Bool.{Bool, true, false, cond, not, ◌&&◌, ◌||◌}
 use mathlib.Core.List.{List, ◌++◌}
 use Prim.Native.Nat.{ℕ, ◌+◌, ◌*◌, ◌≤◌, ◌<◌}
 use native.Mathlib.Omega.{arith}
 use lib.Dec.{eqb, ltb}
-use lib.ListN.{length, get_or, set, replicate, length-set, length-append, length-replicate, get_or-append, get_or-replicate}
+use lib.ListN.{length, set, replicate, length-set, length-append, length-replicate, get_or-append}
 use lib.Seq.{get_or-set_same, get_or-set_other}
 use borrow.Author.Tests.{eq-eqb, eqb-true, eqb-false}
 use Rattle.theory.specs.Automaton.{Automaton}
 use Rattle.theory.specs.Monitor.{state_limit, symbol_limit}
 use Rattle.theory.specs.Below.{any}
 use Rattle.theory.proofs.Below.{clash, both_ways, any_at, any_find}
-use Rattle.state_set.specs.Member.{set_at}
+use Rattle.state_set.specs.declared.StateSet.{StateSet}
+use Rattle.state_set.specs.Member.{member, no_states, set_at}
 use Rattle.state_set.specs.Placing.{Placed}
-use Rattle.state_set.proofs.Words.{words_none, set_none}
+use Rattle.state_set.proofs.Sets.{set_all}
 use Rattle.square.specs.Square.{place, HasRows, entry}
 use Rattle.rows.specs.declared.search.Fresh.{Fresh}
 use Rattle.rows.specs.Searching.{Bare}
@@ -22,24 +23,22 @@ use Rattle.rows.specs.Sets.{Empty, Preceding, leading, Into, Entered}
 
 -- ---- predecessors
 
--- sets whose words are 0 are empty
-pub empty_filled : (n m : ℕ) (rest : List ℕ) {zeros : List ℕ} → m ≡ n * 2 → zeros ≡ replicate m 0 → Empty n (zeros ++ rest)
-empty_filled n m rest e z = rw z (record {
-  size = rw (length-append (replicate {A = ℕ} m 0) rest, size, e) (omega arith);
-  none = λ p q l. rw (at (p * 2) (omega (arith, l)), at (p * 2 + 1) (omega (arith, l)), words_none q) (and-false (ltb q state_limit));
+-- the first sets, which are all one empty set
+pub empty_filled : (n m : ℕ) (rest : List StateSet) (none : StateSet) {sets : List StateSet} → m ≡ n → ((q : ℕ) → member none q ≡ false)
+    → sets ≡ replicate m none → Empty n (sets ++ rest)
+empty_filled n m rest none e empty z = rw z (record {
+  size = rw (length-append (replicate m none) rest, length-replicate m none, e) (omega arith);
+  none = λ p q l. rw (get_or-append (replicate m none) rest no_states p (rw (length-replicate m none) (omega (arith, l, e)))) (at p q (omega (arith, l, e)));
 })
   where
-    size : length (replicate {A = ℕ} m 0) ≡ m
-    size = length-replicate {A = ℕ} m 0
-
-    at : (i : ℕ) → i < n * 2 → get_or (replicate {A = ℕ} m 0 ++ rest) i 0 ≡ 0
-    at i l = get_or-append (replicate {A = ℕ} m 0) rest 0 i (rw size (omega (arith, l, e))) ∙ get_or-replicate {A = ℕ} m i 0 0 (omega (arith, l, e))
+    at : (p q : ℕ) → p < m → set_at (replicate m none) p q ≡ false
+    at p q l = set_all m none p q l ∙ empty q
 
 -- and so are those of an array as it is made
-pub empty_sets : (n size : ℕ) → n * 2 ≤ size → Empty n (replicate size 0)
-empty_sets n size room = record {
-  size = rw (length-replicate {A = ℕ} size 0) room;
-  none = λ p q l. set_none size p q (omega (arith, l, room));
+pub empty_sets : (n size : ℕ) (none : StateSet) → n ≤ size → ((q : ℕ) → member none q ≡ false) → Empty n (replicate size none)
+empty_sets n size none room empty = record {
+  size = rw (length-replicate size none) room;
+  none = λ p q l. set_all size none p q (omega (arith, l, room)) ∙ empty q;
 }
 
 -- of fewer states none is fresh either
@@ -50,7 +49,7 @@ bare_fewer l B = record {
 }
 
 -- for each state and symbol the set has the states that were put there
-pub preceding_placed : {g : Automaton} {before after : List ℕ} → g.symbols ≤ symbol_limit → Empty (g.states * symbol_limit) before
+pub preceding_placed : {g : Automaton} {before after : List StateSet} → g.symbols ≤ symbol_limit → Empty (g.states * symbol_limit) before
     → Placed (λ p a. g.next p a * symbol_limit + a) g.symbols (λ p. ltb p g.states) before after → Preceding g (λ p a. ltb p g.states) after
 preceding_placed {g} few E P = record {
   size = rw P.size E.size;
@@ -82,7 +81,7 @@ pub gathering_none : {g : Automaton} {a : ℕ} {part whole into : ℕ → Bool} 
 gathering_none none = record { at = λ q. rw (none q) }
 
 module _ {g : Automaton} {a : ℕ} {part whole into left : ℕ → Bool} (G : Gathering g a part whole into left) where
-  pub gathering_more : {sets : List ℕ} {y : ℕ} {more into' left' : ℕ → Bool} → Preceding g (λ p b. ltb p g.states) sets → a < g.symbols
+  pub gathering_more : {sets : List StateSet} {y : ℕ} {more into' left' : ℕ → Bool} → Preceding g (λ p b. ltb p g.states) sets → a < g.symbols
       → left y ≡ true → y < g.states → ((q : ℕ) → more q ≡ (part q && set_at sets (y * symbol_limit + a) q))
       → ((q : ℕ) → into' q ≡ (into q || more q)) → ((q : ℕ) → left' q ≡ (left q && not (eqb q y))) → Gathering g a part whole into' left'
   gathering_more {y = y} P la hy ly im ii il = record {

@@ -14,7 +14,8 @@ use Rattle.theory.specs.Monitor.{state_limit}
 use Rattle.theory.specs.Pairs.{told}
 use Rattle.theory.proofs.Below.{clash, not_clash, both_ways, lt_or_le, or_cases, or_left, or_right, and_left, and_right, and_both, any_find}
 use Rattle.theory.proofs.Pairs.{onward}
-use Rattle.state_set.specs.Member.{is_part, set_at, Put, PutPart}
+use Rattle.state_set.specs.declared.StateSet.{StateSet}
+use Rattle.state_set.specs.Member.{is_part, set_at, Put}
 use Rattle.square.specs.Square.{never, entry}
 use Rattle.square.proofs.Stage.{told_by}
 use Rattle.rows.specs.Sets.{Preceding, leading, Into, Entered, Kept, Retired}
@@ -35,7 +36,7 @@ module _ (g : Automaton) (ends : ℕ → ℕ → Bool) where
 
 -- ---- sets in arrays
 
-put_same : {before after : List ℕ} {p : ℕ} {f : ℕ → Bool} → Put before p f after → (x q : ℕ) → (x ≡ p → f q ≡ set_at before p q)
+put_same : {before after : List StateSet} {p : ℕ} {f : ℕ → Bool} → Put before p f after → (x q : ℕ) → (x ≡ p → f q ≡ set_at before p q)
     → set_at after x q ≡ set_at before x q
 put_same {before} {after} {p} {f} P x q same = go (eqb x p) refl
   where
@@ -44,7 +45,7 @@ put_same {before} {after} {p} {f} P x q same = go (eqb x p) refl
     go false h = P.elsewhere x q (eqb-false x p h)
 
 -- the same rows
-pub kept_rows : {n d upto : ℕ} {square alike fresh : List ℕ} {rows rows' : ℕ → Bool} → Kept n d upto square alike fresh rows
+pub kept_rows : {n d upto : ℕ} {square : List ℕ} {alike fresh : List StateSet} {rows rows' : ℕ → Bool} → Kept n d upto square alike fresh rows
     → ((p : ℕ) → rows' p ≡ rows p) → Kept n d upto square alike fresh rows'
 kept_rows k e = record {
   size = k.size;
@@ -57,7 +58,7 @@ kept_rows k e = record {
 }
 
 -- what is not told apart from p, and is another state, is among the alike
-pub told_alike : {g : Automaton} {ends : ℕ → ℕ → Bool} {predecessors : List ℕ} → Ground g ends predecessors → (r p a q : ℕ) {d : ℕ} {square alike next : List ℕ}
+pub told_alike : {g : Automaton} {ends : ℕ → ℕ → Bool} {predecessors : List StateSet} → Ground g ends predecessors → (r p a q : ℕ) {d : ℕ} {square : List ℕ} {alike next : List StateSet}
     {rows : ℕ → Bool} → Kept g.states d g.states square alike next rows → p < g.states → a < g.symbols → q < g.states
     → told g ends r (g.next p a) (g.next q a) ≡ true → entry square p q ≡ never → set_at alike p q ≡ true
 told_alike {g} {ends} G r p a q {square = square} K lp la lq t e =
@@ -66,8 +67,8 @@ told_alike {g} {ends} G r p a q {square = square} K lp la lq t e =
     K.alike_is p q lp ∙ rw (lt-ltb q g.states lq, ne_eqb q p other, eq-eqb (entry square p q) never e)
 
 -- what a row that is not active for a part of the columns has there is done
-pub retired_done : {g : Automaton} {ends : ℕ → ℕ → Bool} {predecessors : List ℕ} → Ground g ends predecessors → {r : ℕ} {done : ℕ → ℕ → ℕ → Bool}
-    {square alike next active : List ℕ} {rows : ℕ → Bool} → Midway g ends r done square alike next active rows
+pub retired_done : {g : Automaton} {ends : ℕ → ℕ → Bool} {predecessors : List StateSet} → Ground g ends predecessors → {r : ℕ} {done : ℕ → ℕ → ℕ → Bool}
+    {square : List ℕ} {alike next active : List StateSet} {rows : ℕ → Bool} → Midway g ends r done square alike next active rows
     → Midway g ends r (λ p q a. done p q a || not (set_at active (q / 64) p)) square alike next active rows
 retired_done {g} {ends} G {r} {done} {square} {active = active} M = record {
   kept = M.kept;
@@ -87,9 +88,9 @@ retired_done {g} {ends} G {r} {done} {square} {active = active} M = record {
 
 -- ---- one row with one symbol
 
-module _ {g : Automaton} {ends : ℕ → ℕ → Bool} {predecessors : List ℕ} (G : Ground g ends predecessors) {r : ℕ} (fits : r + 1 < never)
+module _ {g : Automaton} {ends : ℕ → ℕ → Bool} {predecessors : List StateSet} (G : Ground g ends predecessors) {r : ℕ} (fits : r + 1 < never)
     {p a : ℕ} (lp : p < g.states) (la : a < g.symbols) {front : ℕ → Bool} (F : Front g ends r (g.next p a) front)
-    {done : ℕ → ℕ → ℕ → Bool} {square alike next active : List ℕ} {rows : ℕ → Bool} (M : Midway g ends r done square alike next active rows) where
+    {done : ℕ → ℕ → ℕ → Bool} {square : List ℕ} {alike next active : List StateSet} {rows : ℕ → Bool} (M : Midway g ends r done square alike next active rows) where
   abbrev n : ℕ
   n = g.states
 
@@ -165,7 +166,7 @@ module _ {g : Automaton} {ends : ℕ → ℕ → Bool} {predecessors : List ℕ}
         let h = alike_says q (and_left (set_at alike p q) (into q) x) in
         (h.0, h.1, told_by g ends r p q a la (into_reached q h.0 (and_right (set_at alike p q) (into q) x)))
 
-    module _ {square' alike' next' : List ℕ} {rows' : ℕ → Bool} (E : Entered n square p new (r + 1) square')
+    module _ {square' : List ℕ} {alike' next' : List StateSet} {rows' : ℕ → Bool} (E : Entered n square p new (r + 1) square')
         (A : Put alike p (λ q. set_at alike p q && not (new q)) alike') (X : Put next p (λ q. set_at next p q || new q) next')
         (R : (q : ℕ) → rows' q ≡ (rows q || (eqb q p && ltb p state_limit))) (some : (q : ℕ) × (new q ≡ true)) where
       small_p : p < state_limit
@@ -268,7 +269,7 @@ module _ {g : Automaton} {ends : ℕ → ℕ → Bool} {predecessors : List ℕ}
           go true h = (let e = eqb-true x p h in rw e (and_left (set_at alike p q) (not (new q)) (sym (A.here q) ∙ rw e at t)))
           go false h = sym (A.elsewhere x q (eqb-false x p h)) ∙ t
 
-      pub spread_new : {active' : List ℕ}
+      pub spread_new : {active' : List StateSet}
           → ((w x : ℕ) → set_at active w x ≡ true → (set_at active' w x ≡ true) ⊎ ((x ≡ p) × ((q : ℕ) → is_part w q ≡ true → set_at alike' p q ≡ false)))
           → Midway g ends r (λ x q b. done x q b || row_done part p a x q b) square' alike' next' active' rows'
       spread_new O = record {
@@ -307,13 +308,17 @@ module _ {g : Automaton} {ends : ℕ → ℕ → Bool} {predecessors : List ℕ}
 -- ---- what `spread_row` does
 
 -- a set stored at place p is any that has the same states
-pub put_as : {before after : List ℕ} {p : ℕ} (f h : ℕ → Bool) → Put before p f after → ((q : ℕ) → f q ≡ h q) → Put before p h after
+pub put_as : {before after : List StateSet} {p : ℕ} (f h : ℕ → Bool) → Put before p f after → ((q : ℕ) → f q ≡ h q) → Put before p h after
 put_as f h P e = record { size = P.size; here = λ q. P.here q ∙ e q; elsewhere = P.elsewhere }
 
--- a word stored, of which the states of its part are known, is the set so changed
-pub put_part : {before after : List ℕ} {p w : ℕ} (f h : ℕ → Bool) → PutPart before p w f after
-    → ((q : ℕ) → is_part w q ≡ true → f q ≡ h q) → ((q : ℕ) → is_part w q ≡ false → set_at before p q ≡ h q) → Put before p h after
-put_part {before} {after} {p} {w} f h P inside outside = record { size = P.size; here = λ q. P.here q ∙ go q (is_part w q) refl; elsewhere = P.elsewhere }
+-- a set stored with another part, of which the states are known, is the set so changed
+pub put_part : {before after : List StateSet} {p : ℕ} (w : ℕ) (f h : ℕ → Bool) {test : ℕ → Bool} → Put before p test after
+    → ((q : ℕ) → test q ≡ cond (is_part w q) (f q) (set_at before p q)) → ((q : ℕ) → is_part w q ≡ true → f q ≡ h q) → ((q : ℕ) → is_part w q ≡ false → set_at before p q ≡ h q) → Put before p h after
+put_part {before} {after} {p} w f h P is inside outside = record {
+  size = P.size;
+  here = λ q. P.here q ∙ is q ∙ go q (is_part w q) refl;
+  elsewhere = P.elsewhere;
+}
   where
     go : (q : ℕ) (b : Bool) → is_part w q ≡ b → cond b (f q) (set_at before p q) ≡ h q
     go q true e = inside q e
@@ -343,7 +348,7 @@ new_outside : (part alike new here into : ℕ → Bool) → ((q : ℕ) → here 
 new_outside part alike new here into H N q e = N q ∙ rw (H q, e)
 
 module _ (w : ℕ) {g : Automaton} (p a r : ℕ) (fits : r + 1 < never) (lp : p < g.states) (la : a < g.symbols) {front : ℕ → Bool}
-    {sets square alike next active : List ℕ} {rows : ℕ → Bool} where
+    {sets : List StateSet} {square : List ℕ} {alike next active : List StateSet} {rows : ℕ → Bool} where
   module _ {into new here : ℕ → Bool} (I : Closed g → Preceding g (λ x b. ltb x g.states) sets → Into g a (is_part w) front into)
       (H : (q : ℕ) → here q ≡ (is_part w q && set_at alike p q)) (N : (q : ℕ) → new q ≡ (here q && into q)) where
     pub row_none : ((q : ℕ) → new q ≡ false)
@@ -353,22 +358,22 @@ module _ (w : ℕ) {g : Automaton} (p a r : ℕ) (fits : r + 1 < never) (lp : p 
           (new_is (I G.closed G.preceding) (set_at alike p) new here H N) none;
     }
 
-    pub row_new : {square' alike' next' active' : List ℕ} {left more old rows' : ℕ → Bool} {word : ℕ} → (q : ℕ) × (new q ≡ true)
+    pub row_new : {square' : List ℕ} {alike' next' active' : List StateSet} {alike'' next'' left more old rows' : ℕ → Bool} {word : ℕ} → (q : ℕ) × (new q ≡ true)
         → Entered state_limit square p new (r + 1) square'
-        → PutPart alike p w left alike' → ((q : ℕ) → left q ≡ (here q && not (new q)))
-        → PutPart next p w more next' → ((q : ℕ) → more q ≡ (old q || new q)) → ((q : ℕ) → old q ≡ (is_part w q && set_at next p q))
+        → Put alike p alike'' alike' → ((q : ℕ) → alike'' q ≡ cond (is_part w q) (left q) (set_at alike p q)) → ((q : ℕ) → left q ≡ (here q && not (new q)))
+        → Put next p next'' next' → ((q : ℕ) → next'' q ≡ cond (is_part w q) (more q) (set_at next p q)) → ((q : ℕ) → more q ≡ (old q || new q)) → ((q : ℕ) → old q ≡ (is_part w q && set_at next p q))
         → Retired p w word active active' → (word ≡ 0 → (q : ℕ) → left q ≡ false)
         → ((q : ℕ) → rows' q ≡ (rows q || (eqb q p && ltb p state_limit)))
         → GoesAt g r (g.next p a) front (row_done (is_part w) p a) sets square alike next active rows square' alike' next' active' rows'
-    row_new {left = left} {more} {word = word} some E A ea X ex eo S none R = record {
+    row_new {left = left} {more} {word = word} some E A put_alike ea X put_next ex eo S none R = record {
       goes = λ ends done G F M.
           spread_new G fits lp la F M (I G.closed G.preceding) (new_is (I G.closed G.preceding) (set_at alike p) new here H N) (entered_fewer G.small E)
-          (put_part left (λ q. set_at alike p q && not (new q)) A (λ q e. ea q ∙ rw (H q, e))
+          (put_part w left (λ q. set_at alike p q && not (new q)) A put_alike (λ q e. ea q ∙ rw (H q, e))
           (λ q e. rw (new_outside (is_part w) (set_at alike p) new here into H N q e) (sym (and-true (set_at alike p q)))))
-          (put_part more (λ q. set_at next p q || new q) X (λ q e. ex q ∙ rw (eo q, e))
+          (put_part w more (λ q. set_at next p q || new q) X put_next (λ q e. ex q ∙ rw (eo q, e))
           (λ q e. rw (new_outside (is_part w) (set_at alike p) new here into H N q e) (sym (or-false (set_at next p q)))))
           R some
-          (λ u x t. ⊎_elim inl (λ h. inr (h.1, λ q e. A.here q ∙ gone u q h.0 e h.2)) (S.stays u x t));
+          (λ u x t. ⊎_elim inl (λ h. inr (h.1, λ q e. A.here q ∙ put_alike q ∙ gone u q h.0 e h.2)) (S.stays u x t));
     }
       where
         gone : (u q : ℕ) → u ≡ w → is_part u q ≡ true → word ≡ 0 → cond (is_part w q) (left q) (set_at alike p q) ≡ false

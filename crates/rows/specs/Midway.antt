@@ -4,11 +4,12 @@ use Rattle.std.specs.Prelude.{◌≡◌, Bool, true, false, ◌&&◌, ◌||◌, 
 use Rattle.theory.specs.Automaton.{Automaton, Closed}
 use Rattle.theory.specs.Monitor.{state_limit}
 use Rattle.theory.specs.Pairs.{told}
+use Rattle.state_set.specs.declared.StateSet.{StateSet}
 use Rattle.square.specs.Square.{never, entry}
 use Rattle.rows.specs.Sets.{Preceding, Kept, Active}
 
 -- what the search goes by: an automaton, a test that no state passes with itself, and the predecessors of every state
-pub record Ground (g : Automaton) (ends : ℕ → ℕ → Bool) (predecessors : List ℕ) : Type 0 where
+pub record Ground (g : Automaton) (ends : ℕ → ℕ → Bool) (predecessors : List StateSet) : Type 0 where
   pub small : g.states ≤ state_limit
   pub closed : Closed g
   pub self : (p : ℕ) → p < g.states → ends p p ≡ false
@@ -23,7 +24,7 @@ pub record Front (g : Automaton) (ends : ℕ → ℕ → Bool) (r x : ℕ) (fron
 -- in the middle of the round after r: what was at most r is as it was, what is new is told apart within r + 1, and the
 -- row p has in column q what symbol a adds to it where that is done
 pub record Midway (g : Automaton) (ends : ℕ → ℕ → Bool) (r : ℕ) (done : ℕ → ℕ → ℕ → Bool)
-    (square alike next active : List ℕ) (rows : ℕ → Bool) : Type 0 where
+    (square : List ℕ) (alike next active : List StateSet) (rows : ℕ → Bool) : Type 0 where
   pub kept : Kept g.states (suc r) g.states square alike next rows
   pub active_rows : Active g.states alike active
   pub old : (p q s : ℕ) → p < g.states → q < g.states → s ≤ r → told g ends s p q ≡ leb (entry square p q) s
@@ -33,9 +34,9 @@ pub record Midway (g : Automaton) (ends : ℕ → ℕ → Bool) (r : ℕ) (done 
       → told g ends r (g.next p a) (g.next q a) ≡ true → entry square p q ≤ suc r
 
 -- the round goes on: with what is at distance r from x, more is done, whatever the test of two states
-pub record GoesAt (g : Automaton) (r x : ℕ) (front : ℕ → Bool) (more : ℕ → ℕ → ℕ → Bool) (predecessors : List ℕ)
-    (square alike next active : List ℕ) (rows : ℕ → Bool) (square' alike' next' active' : List ℕ) (rows' : ℕ → Bool)
-    : Type 0 where
+pub record GoesAt (g : Automaton) (r x : ℕ) (front : ℕ → Bool) (more : ℕ → ℕ → ℕ → Bool) (predecessors : List StateSet)
+    (square : List ℕ) (alike next active : List StateSet) (rows : ℕ → Bool)
+    (square' : List ℕ) (alike' next' active' : List StateSet) (rows' : ℕ → Bool) : Type 0 where
   pub goes : (ends : ℕ → ℕ → Bool) (done : ℕ → ℕ → ℕ → Bool) → Ground g ends predecessors → Front g ends r x front
       → Midway g ends r done square alike next active rows
       → Midway g ends r (λ p q a. done p q a || more p q a) square' alike' next' active' rows'

@@ -2,12 +2,12 @@
 // predecessors of the states, what leads into a front, and the pairs that are new in a row.
 #![tactic(auto)]
 
-ghost use Rattle.std.specs.Prelude.{◌≡◌, ℕ, ◌*◌, ◌≤◌, ltb, length};
+ghost use Rattle.std.specs.Prelude.{◌≡◌, ℕ, ◌≤◌, ltb, length};
 ghost use Rattle.theory.specs.Monitor.{state_limit};
 ghost use Rattle.state_set.specs.Member.{member};
 ghost use Rattle.rows.specs.Sets.{Empty};
 
-use state_set::{StateSet, WORDS};
+use state_set::StateSet;
 use theory::{STATE_LIMIT, SYMBOL_LIMIT};
 
 mod predecessors;
@@ -32,13 +32,13 @@ pub fn all_below(n: usize) -> StateSet
 
 // ---- predecessors: a set for each state and symbol
 
-// The words of the predecessors of all states. They are made once and lent to one search after the other.
-pub const PREDECESSORS: usize = STATE_LIMIT * SYMBOL_LIMIT * WORDS;
+// The sets of predecessors of all states and symbols. They are made once and lent to one search after the other.
+pub const PREDECESSORS: usize = STATE_LIMIT * SYMBOL_LIMIT;
 
 // Empties the first n sets, whatever they held.
-fn clear(sets: &mut [u64], n: usize)
-    requires { n * 2 ≤ length sets.old }
+fn clear(sets: &mut [StateSet], n: usize)
+    requires { n ≤ length sets.old }
     ensures { Empty n sets.new }
 {
-    sets[..n * WORDS].fill(0);
+    sets[..n].fill(StateSet::empty());
 }

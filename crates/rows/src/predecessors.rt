@@ -16,14 +16,14 @@ use theory::SYMBOL_LIMIT;
 pub struct Predecessors<'g, 's> {
     pub graph: Graph<'g>,
     pub all: StateSet,
-    pub sets: &'s [u64],
+    pub sets: &'s [StateSet],
     pub ghost states: { (q : ℕ) → member all q ≡ ltb q graph.states },
     pub ghost preceding: { Preceding (automaton graph) (λ p a. ltb p graph.states) sets.now },
 }
 
 impl<'g, 's> Predecessors<'g, 's> {
     // Enters every state of a graph among the predecessors of its successors, in sets that are filled anew.
-    pub fn enter(area: &'s mut [u64; PREDECESSORS], graph: &Graph<'g>) -> Self
+    pub fn enter(area: &'s mut [StateSet; PREDECESSORS], graph: &Graph<'g>) -> Self
         ensures { result.graph ≡ graph.now }
     {
         crate::clear(area, graph.states * SYMBOL_LIMIT);
@@ -42,7 +42,7 @@ impl<'g, 's> Predecessors<'g, 's> {
             × (a < self.now.graph.symbols) }
         ensures { (q : ℕ) → member result q ≡ set_at self.now.sets.now (x * symbol_limit + a) q }
     {
-        StateSet::read(self.sets, x * SYMBOL_LIMIT + a)
+        self.sets[x * SYMBOL_LIMIT + a]
     }
 
     // Those of part w.
@@ -52,7 +52,7 @@ impl<'g, 's> Predecessors<'g, 's> {
             × (w < 2) }
         ensures { (q : ℕ) → in_part w result q ≡ (is_part w q && set_at self.now.sets.now (x * symbol_limit + a) q) }
     {
-        state_set::word_at(self.sets, x * SYMBOL_LIMIT + a, w)
+        self.of(x, a).part(w)
     }
 
     // The states of part w from which a leads into a set.

@@ -2,19 +2,20 @@
 ghost use Rattle.std.specs.Prelude.{◌≡◌, Bool, true, List, ℕ, ◌+◌, ◌*◌, ◌<◌, ltb};
 ghost use Rattle.theory.specs.Automaton.{Automaton, Closed};
 ghost use Rattle.theory.specs.Monitor.{state_limit, symbol_limit};
+ghost use Rattle.state_set.specs.declared.StateSet.{StateSet};
 ghost use Rattle.state_set.specs.Member.{is_part, in_part, set_at};
 ghost use Rattle.square.specs.Square.{never};
 ghost use Rattle.rows.specs.Sets.{Preceding, Into, Within, Entered, Retired};
 ghost use Rattle.rows.specs.Midway.{row_done, set_done};
 ghost use Rattle.rows.specs.Searching.{Bare, Goes, Stays};
 
-use state_set::{StateSet, WORDS};
+use state_set::{PARTS, StateSet};
 use theory::{SQUARE_SIZE, STATE_LIMIT};
 
 // The pairs that are new in a round: the fresh states of each row, and the rows that have one.
 #[derive(Drop)]
 pub struct Fresh {
-    pub sets: [u64; STATE_LIMIT * WORDS],
+    pub sets: [StateSet; STATE_LIMIT],
     pub rows: StateSet,
 }
 
@@ -24,7 +25,7 @@ impl Fresh {
         ensures { Bare state_limit result }
     {
         Fresh {
-            sets: [0; STATE_LIMIT * WORDS],
+            sets: [StateSet::empty(); STATE_LIMIT],
             rows: StateSet::empty(),
         }
     }
@@ -34,8 +35,8 @@ impl Fresh {
 #[derive(Drop)]
 pub struct Search<'a> {
     pub square: &'a mut [u16; SQUARE_SIZE],
-    pub alike: [u64; STATE_LIMIT * WORDS],
-    pub active: [u64; WORDS * WORDS],
+    pub alike: [StateSet; STATE_LIMIT],
+    pub active: [StateSet; PARTS],
 }
 
 // Enters d for p and each state of a word of part w.
@@ -50,14 +51,14 @@ fn enter(square: &mut [u16; SQUARE_SIZE], p: usize, word: u64, w: usize, d: u16)
 }
 
 // Retires row p from the columns of part w where none of them is left.
-fn retire_row(active: &mut [u64; WORDS * WORDS], p: usize, w: usize, left: u64)
+fn retire_row(active: &mut [StateSet; PARTS], p: usize, w: usize, left: u64)
     requires { w < 2 }
     ensures { Retired p w left active.old active.new }
 {
     if left != 0 {
         return;
     }
-    StateSet::read(active, w).without(p).write(active, w);
+    active[w] = active[w].without(p);
 }
 
 impl Search<'_> {
@@ -68,21 +69,21 @@ impl Search<'_> {
             × (w < 2)
             × (r + 1 < never) }
         ensures stays { Stays self.old self.new }
-        ensures goes { (g : Automaton) (a : ℕ) (front : ℕ → Bool) (predecessors : List ℕ)
+        ensures goes { (g : Automaton) (a : ℕ) (front : ℕ → Bool) (predecessors : List StateSet)
             → p < g.states → a < g.symbols
             → (Closed g → Preceding g (λ q b. ltb q g.states) predecessors
             → Into g a (is_part w) front (in_part w into))
             → Goes g r (g.next p a) front (row_done (is_part w) p a) predecessors self.old next.old self.new next.new }
     {
-        let here = state_set::word_at(&self.alike, p, w);
+        let here = self.alike[p].part(w);
         let new = here & into;
         if new == 0 {
             return;
         }
         let left = here & !new;
-        state_set::put_word(&mut self.alike, p, w, left);
-        let more = state_set::word_at(&next.sets, p, w) | new;
-        state_set::put_word(&mut next.sets, p, w, more);
+        self.alike[p] = self.alike[p].with_part(w, left);
+        let more = next.sets[p].part(w) | new;
+        next.sets[p] = next.sets[p].with_part(w, more);
         enter(self.square, p, new, w, r + 1);
         retire_row(&mut self.active, p, w, left);
         next.rows = next.rows.with(p);
@@ -102,7 +103,7 @@ impl Search<'_> {
             × (w < 2)
             × (r + 1 < never) }
         ensures stays { Stays self.old self.new }
-        ensures goes { (g : Automaton) (x a : ℕ) (front : ℕ → Bool) (predecessors : List ℕ)
+        ensures goes { (g : Automaton) (x a : ℕ) (front : ℕ → Bool) (predecessors : List StateSet)
             → Within g.states (in_part v word) → x < g.states → a < g.symbols
             → (Closed g → Preceding g (λ q b. ltb q g.states) predecessors
             → Into g a (is_part w) front (in_part w into))

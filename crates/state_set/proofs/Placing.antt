@@ -10,17 +10,18 @@ use borrow.Author.Tests.{eq-eqb, ne_eqb, eqb-true, lt-ltb, le-ltb}
 use Rattle.theory.specs.Below.{any}
 use Rattle.theory.specs.Monitor.{state_limit}
 use Rattle.theory.proofs.Below.{lt_or_le, same_or_not, any_more}
+use Rattle.state_set.specs.declared.StateSet.{StateSet}
 use Rattle.state_set.specs.Member.{set_at, Put}
 use Rattle.state_set.specs.Placing.{Placed}
 
 module _ {number : ℕ → ℕ → ℕ} where
   -- no number was gone through yet
-  pub placed_begins : (those : ℕ → Bool) (sets : List ℕ) → Placed number 0 those sets sets
+  pub placed_begins : (those : ℕ → Bool) (sets : List StateSet) → Placed number 0 those sets sets
   unfolding any
   placed_begins those sets = record { size = refl; at = λ i q. rw (and-false (those q)) (sym (or-false (set_at sets i q))) }
 
   -- p put into one more set
-  pub placed_more : {p a i : ℕ} {before sets after : List ℕ} {test : ℕ → Bool} → Placed number a (λ q. eqb q p) before sets → p < state_limit
+  pub placed_more : {p a i : ℕ} {before sets after : List StateSet} {test : ℕ → Bool} → Placed number a (λ q. eqb q p) before sets → p < state_limit
       → i ≡ number p a → Put sets i test after → ((q : ℕ) → test q ≡ (set_at sets i q || (eqb q p && ltb p state_limit)))
       → Placed number (a + 1) (λ q. eqb q p) before after
   placed_more {p} {a} {i} {before} {sets} {after} P lp ei S T = record {
@@ -53,7 +54,7 @@ module _ {number : ℕ → ℕ → ℕ} where
           go s b false h = or-false (s || false)
 
   -- the states before p, and then p
-  pub placed_next : (p : ℕ) {count : ℕ} {before sets after : List ℕ} → Placed number count (λ q. ltb q p) before sets → Placed number count (λ q. eqb q p) sets after
+  pub placed_next : (p : ℕ) {count : ℕ} {before sets after : List StateSet} → Placed number count (λ q. ltb q p) before sets → Placed number count (λ q. eqb q p) sets after
       → Placed number count (λ q. ltb q (p + 1)) before after
   placed_next p {count} {before} P Q = record {
     size = Q.size ∙ P.size;

@@ -1,20 +1,17 @@
 -- Two words as one set: what holds of each word's bits holds of the states.
 use mathlib.Core.Path.{◌≡◌, refl, sym, ap, ◌∙◌}
 use mathlib.Core.Bool.{Bool, true, false, cond, not, ◌&&◌, ◌||◌, and-false, or-false}
-use mathlib.Core.List.{List}
 use mathlib.Core.Logic.{⊎_elim}
-use Prim.Native.Nat.{ℕ, zero, suc, ◌+◌, ◌-◌, ◌*◌, ◌/◌, ◌%◌, ◌^◌, ◌≤◌, ◌<◌}
+use Prim.Native.Nat.{ℕ, ◌+◌, ◌-◌, ◌/◌, ◌%◌, ◌^◌, ◌≤◌, ◌<◌}
 use native.Mathlib.Omega.{arith}
 use lib.Dec.{eqb, ltb}
-use lib.ListN.{length, get_or, set, replicate, length-set, get_or-replicate}
-use lib.Seq.{get_or-set_same, get_or-set_other}
 use lib.Bits.{bit_and, bit_or}
 use lib.Count.{ones}
 use borrow.Author.Tests.{eq-eqb, ne_eqb, eqb-true, eqb-false, lt-ltb, le-ltb}
 use Rattle.theory.specs.Below.{count}
 use Rattle.theory.proofs.Below.{both_ways, lt_or_le, count_same, count_joined}
-use Rattle.theory.proofs.Bits.{bit, bit_empty, bit_high, bit_and_lem, bit_or_lem, bit_not, bit_minus, ones_count}
-use Rattle.state_set.specs.Member.{in_word, in_words, is_part, in_part, set_at, Put, PutPart}
+use Rattle.theory.proofs.Bits.{bit, bit_empty, bit_high, bit_and_lem, bit_or_lem, bit_minus, ones_count}
+use Rattle.state_set.specs.Member.{in_word, in_words, is_part, in_part}
 
 module _ (low high : ℕ) where
   pub low_at : (q : ℕ) → q < 64 → in_words low high q ≡ in_word low q
@@ -84,38 +81,6 @@ words_count low high l h =
     (sym (count_joined 64 64 (in_words low high) (in_word high) (high_at low high)
     ∙ ap (λ (x : ℕ). x + count 64 (in_word high)) (count_same 64 (in_words low high) (in_word low) (low_at low high))))
 
--- ---- sets in arrays
-
--- a state of a set is below 128
-pub words_below : (low high q : ℕ) → high < 2 ^ 64 → (ltb q 128 && in_words low high q) ≡ in_words low high q
-words_below low high q h =
-    ⊎_elim (λ (l : q < 128). rw (lt-ltb q 128 l)) (λ (l : 128 ≤ q). rw (le-ltb q 128 l) (sym (words_past low high q h l))) (lt_or_le q 128)
-
-pub set_written : (words : List ℕ) (i low high : ℕ) → i * 2 + 1 < length words → high < 2 ^ 64
-    → Put words i (in_words low high) (set (set words (i * 2) low) (i * 2 + 1) high)
-set_written words i low high l h = record {
-  size = length-set (set words (i * 2) low) (i * 2 + 1) high ∙ length-set words (i * 2) low;
-  here = λ q. rw (at_low, at_high) (words_below low high q h);
-  elsewhere = λ j q ne. rw (
-    other (j * 2) (λ e. ne (omega (arith, e))) (λ e. omega (arith, e)),
-    other (j * 2 + 1) (λ e. omega (arith, e))
-        (λ e. ne (omega (arith, e))),
-  );
-}
-  where
-    at_low : get_or (set (set words (i * 2) low) (i * 2 + 1) high) (i * 2) 0 ≡ low
-    at_low = get_or-set_other (set words (i * 2) low) (i * 2 + 1) (i * 2) high 0 (λ e. omega (arith, e)) ∙ get_or-set_same words (i * 2) low 0 (omega (arith, l))
-
-    at_high : get_or (set (set words (i * 2) low) (i * 2 + 1) high) (i * 2 + 1) 0 ≡ high
-    at_high = get_or-set_same (set words (i * 2) low) (i * 2 + 1) high 0 (rw (length-set words (i * 2) low) l)
-
-    other : (x : ℕ) → (x ≡ i * 2 → ⊥) → (x ≡ i * 2 + 1 → ⊥) → get_or (set (set words (i * 2) low) (i * 2 + 1) high) x 0 ≡ get_or words x 0
-    other x a b = get_or-set_other (set words (i * 2) low) (i * 2 + 1) x high 0 b ∙ get_or-set_other words (i * 2) x low 0 a
-
-pub set_none : (size i q : ℕ) → i * 2 + 1 < size → set_at (replicate size 0) i q ≡ false
-set_none size i q l =
-    rw (get_or-replicate {A = ℕ} size (i * 2) 0 0 (omega (arith, l)), get_or-replicate {A = ℕ} size (i * 2 + 1) 0 0 l, words_none q) (and-false (ltb q 128))
-
 -- ---- one word
 
 -- the words of a set as parts of it
@@ -141,59 +106,30 @@ high_part low high q = go (is_part 1 q) refl
         rw z (sym (high_from low high q (omega (arith, e))))
     go false h = refl
 
--- word w of set i
-pub part_read : (words : List ℕ) (i w q : ℕ) → w < 2 → in_part w (get_or words (i * 2 + w) 0) q ≡ (is_part w q && set_at words i q)
-part_read words i w q lw = by w lw ∙ below (is_part w q) refl
+-- a word in place of a part, the other part as it was
+pub part_low : (word low high q : ℕ) → in_words word high q ≡ cond (is_part 0 q) (in_part 0 word q) (in_words low high q)
+part_low word low high q = go (is_part 0 q) refl
   where
-    by : (w : ℕ) → w < 2 → in_part w (get_or words (i * 2 + w) 0) q ≡ (is_part w q && in_words (get_or words (i * 2) 0) (get_or words (i * 2 + 1) 0) q)
-    by zero l = (let e : i * 2 + 0 ≡ i * 2 = omega arith in rw e (low_part (get_or words (i * 2) 0) (get_or words (i * 2 + 1) 0) q))
-    by (suc zero) l = high_part (get_or words (i * 2) 0) (get_or words (i * 2 + 1) 0) q
-    by (suc (suc w)) l = absurd (omega arith)
+    go : (b : Bool) → is_part 0 q ≡ b → in_words word high q ≡ cond b (in_part 0 word q) (in_words low high q)
+    go true t = sym (low_part word high q ∙ rw t)
+    go false t =
+        let m : 64 ≤ q = (let ne = eqb-false (q / 64) 0 t in ⊎_elim (λ (z : q < 64). absurd (ne (omega (arith, z)))) (λ z. z) (lt_or_le q 64)) in
+        high_from word high q m ∙ sym (high_from low high q m)
 
-    below : (b : Bool) → is_part w q ≡ b → (b && in_words (get_or words (i * 2) 0) (get_or words (i * 2 + 1) 0) q) ≡ (b && set_at words i q)
-    below true h = (let e = eqb-true (q / 64) w h in rw (lt-ltb q 128 (omega (arith, e, lw))))
-    below false h = refl
-
--- it is stored
-pub part_written : (words : List ℕ) (i w word : ℕ) → w < 2 → i * 2 + w < length words → PutPart words i w (in_part w word) (set words (i * 2 + w) word)
-part_written words i w word lw l = record {
-  size = length-set words (i * 2 + w) word;
-  here = λ q. ⊎_elim
-      (λ (h : q < 128). rw (lt-ltb q 128 h) (here w q h lw l))
-      (λ (h : 128 ≤ q). rw (le-ltb q 128 h, ne_eqb (q / 64) w (λ e. omega (arith, e, lw, h))))
-      (lt_or_le q 128);
-  elsewhere = λ j q ne. rw (
-    get_or-set_other words (i * 2 + w) (j * 2) word 0 (λ e. ne (omega (arith, e, lw))),
-    get_or-set_other words (i * 2 + w) (j * 2 + 1) word 0 (λ e. ne (omega (arith, e, lw))),
-  );
-}
+pub part_high : (low word high q : ℕ) → word < 2 ^ 64 → high < 2 ^ 64 → in_words low word q ≡ cond (is_part 1 q) (in_part 1 word q) (in_words low high q)
+part_high low word high q k h = go (is_part 1 q) refl
   where
-    here : (w q : ℕ) → q < 128 → w < 2 → i * 2 + w < length words
-        → in_words (get_or (set words (i * 2 + w) word) (i * 2) 0) (get_or (set words (i * 2 + w) word) (i * 2 + 1) 0) q
-        ≡ cond (is_part w q) (in_part w word q) (in_words (get_or words (i * 2) 0) (get_or words (i * 2 + 1) 0) q)
-    here zero q lq lw l =
-        let e : i * 2 + 0 ≡ i * 2 = omega arith in
-        rw (e, get_or-set_same words (i * 2) word 0 (omega (arith, l)), get_or-set_other words (i * 2) (i * 2 + 1) word 0 (λ z. omega (arith, z)))
-        (low (is_part 0 q) refl)
-      where
-        low : (b : Bool) → is_part 0 q ≡ b
-            → in_words word (get_or words (i * 2 + 1) 0) q ≡ cond b (in_part 0 word q) (in_words (get_or words (i * 2) 0) (get_or words (i * 2 + 1) 0) q)
-        low true t = sym (low_part word (get_or words (i * 2 + 1) 0) q ∙ rw t)
-        low false t =
-            let m : 64 ≤ q = (let ne = eqb-false (q / 64) 0 t in ⊎_elim (λ (z : q < 64). absurd (ne (omega (arith, z)))) (λ z. z) (lt_or_le q 64)) in
-            high_from word (get_or words (i * 2 + 1) 0) q m ∙ sym (high_from (get_or words (i * 2) 0) (get_or words (i * 2 + 1) 0) q m)
-    here (suc zero) q lq lw l =
-        rw (get_or-set_same words (i * 2 + 1) word 0 l, get_or-set_other words (i * 2 + 1) (i * 2) word 0 (λ z. omega (arith, z)))
-        (high (is_part 1 q) refl)
-      where
-        high : (b : Bool) → is_part 1 q ≡ b
-            → in_words (get_or words (i * 2) 0) word q ≡ cond b (in_part 1 word q) (in_words (get_or words (i * 2) 0) (get_or words (i * 2 + 1) 0) q)
-        high true t = sym (high_part (get_or words (i * 2) 0) word q ∙ rw t)
-        high false t =
-            let ne = eqb-false (q / 64) 1 t in
-            let z : q < 64 = ⊎_elim (λ (y : q < 64). y) (λ (y : 64 ≤ q). absurd (ne (omega (arith, y, lq)))) (lt_or_le q 64) in
-            low_at (get_or words (i * 2) 0) word q z ∙ sym (low_at (get_or words (i * 2) 0) (get_or words (i * 2 + 1) 0) q z)
-    here (suc (suc w)) q lq lw l = absurd (omega arith)
+    other : (q / 64 ≡ 1 → ⊥) → in_words low word q ≡ in_words low high q
+    other ne =
+        ⊎_elim
+        (λ (l : q < 64). low_at low word q l ∙ sym (low_at low high q l))
+        (λ (l : 64 ≤ q). let m : 128 ≤ q = ⊎_elim (λ (z : q < 128). absurd (ne (omega (arith, z, l)))) (λ z. z) (lt_or_le q 128) in
+        words_past low word q k m ∙ sym (words_past low high q h m))
+        (lt_or_le q 64)
+
+    go : (b : Bool) → is_part 1 q ≡ b → in_words low word q ≡ cond b (in_part 1 word q) (in_words low high q)
+    go true t = sym (high_part low word q ∙ rw t)
+    go false t = other (eqb-false (q / 64) 1 t)
 
 -- operations on words
 pub part_and : (w a b q : ℕ) → in_part w (bit_and a b) q ≡ (in_part w a q && in_part w b q)
@@ -224,15 +160,3 @@ part_minus w a b q h k = rw (bit_minus 64 a b h k (q % 64)) (go (is_part w q) (b
 pub part_none : (w q : ℕ) → in_part w 0 q ≡ false
 unfolding in_part in_word
 part_none w q = rw (bit_empty (q % 64), and-false (is_part w q))
-
--- two words with all their bits
-pub words_full : (q : ℕ) → q < 128 → in_words (2 ^ 64 - 1) (2 ^ 64 - 1) q ≡ true
-unfolding in_word
-words_full q l =
-    ⊎_elim
-    (λ (k : q < 64). low_at (2 ^ 64 - 1) (2 ^ 64 - 1) q k ∙ full q k)
-    (λ (k : 64 ≤ q). high_from (2 ^ 64 - 1) (2 ^ 64 - 1) q k ∙ full (q - 64) (omega (arith, k, l)))
-    (lt_or_le q 64)
-  where
-    full : (i : ℕ) → i < 64 → bit (2 ^ 64 - 1) i ≡ true
-    full i l = bit_not 64 0 i (omega arith) l ∙ rw (bit_empty i)

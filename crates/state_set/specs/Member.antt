@@ -1,6 +1,5 @@
 -- What is in a set of states.
-use Rattle.std.specs.Prelude.{◌≡◌, Bool, cond, ◌&&◌, List, ℕ, ◌+◌, ◌-◌, ◌*◌, ◌/◌, ◌%◌, ◌^◌, eqb, ltb, length, get_or}
-use Rattle.theory.specs.Monitor.{state_limit}
+use Rattle.std.specs.Prelude.{◌≡◌, Bool, cond, ◌&&◌, List, ℕ, ◌-◌, ◌/◌, ◌%◌, ◌^◌, eqb, ltb, length, get_or}
 use Rattle.state_set.specs.declared.StateSet.{StateSet}
 
 -- bit q of a word is set
@@ -27,20 +26,18 @@ in_part w word q = is_part w q && in_word word (q % 64)
 pub record Exactly (n : ℕ) (f : ℕ → Bool) (s : StateSet) : Type 0 where
   pub at : (q : ℕ) → member s q ≡ (ltb q n && f q)
 
--- ---- sets in arrays of words, two words for each set, the lower one first
+-- ---- sets in an array
+
+-- the set of no states
+abbrev pub no_states : StateSet
+no_states = record { low = 0; high = 0 }
 
 -- state q is in set i
-abbrev pub set_at : List ℕ → ℕ → ℕ → Bool
-set_at words i q = ltb q state_limit && in_words (get_or words (i * 2) 0) (get_or words (i * 2 + 1) 0) q
+abbrev pub set_at : List StateSet → ℕ → ℕ → Bool
+set_at sets i q = member (get_or sets i no_states) q
 
 -- set i became that of the states that pass the test
-pub record Put (before : List ℕ) (i : ℕ) (test : ℕ → Bool) (after : List ℕ) : Type 0 where
+pub record Put (before : List StateSet) (i : ℕ) (test : ℕ → Bool) (after : List StateSet) : Type 0 where
   pub size : length after ≡ length before
   pub here : (q : ℕ) → set_at after i q ≡ test q
-  pub elsewhere : (j q : ℕ) → (j ≡ i → ⊥) → set_at after j q ≡ set_at before j q
-
--- word w of set i became that of the states that pass the test
-pub record PutPart (before : List ℕ) (i w : ℕ) (test : ℕ → Bool) (after : List ℕ) : Type 0 where
-  pub size : length after ≡ length before
-  pub here : (q : ℕ) → set_at after i q ≡ cond (is_part w q) (test q) (set_at before i q)
   pub elsewhere : (j q : ℕ) → (j ≡ i → ⊥) → set_at after j q ≡ set_at before j q

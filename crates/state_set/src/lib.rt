@@ -1,10 +1,10 @@
 // Sets of states, each two 64-bit words: the states below 64 in the lower word, the others in the upper one.
 #![tactic(auto)]
 
-ghost use Rattle.std.specs.Prelude.{◌≡◌, false, not, ◌&&◌, ◌||◌, ℕ, ◌+◌, ◌*◌, ◌<◌, eqb, ltb, length};
+ghost use Rattle.std.specs.Prelude.{◌≡◌, false, not, ◌&&◌, ◌||◌, cond, ℕ, ◌<◌, eqb, ltb};
 ghost use Rattle.theory.specs.Below.{count, first};
 ghost use Rattle.theory.specs.Monitor.{state_limit};
-ghost use Rattle.state_set.specs.Member.{is_part, in_part, member, set_at, Put, PutPart};
+ghost use Rattle.state_set.specs.Member.{is_part, in_part, member};
 
 use theory::STATE_LIMIT;
 
@@ -14,8 +14,8 @@ mod states;
 pub use puts::put_each;
 pub use states::{PartStates, States, part_states};
 
-// How many words a set has, and how many states a word.
-pub const WORDS: usize = 2;
+// Part w of a set has the states from 64 w on, of which there are 64, in one word.
+pub const PARTS: usize = 2;
 
 pub const WORD: usize = 64;
 
@@ -30,26 +30,6 @@ impl StateSet {
         ensures { (p : ℕ) → member result p ≡ false }
     {
         Self { low: 0, high: 0 }
-    }
-
-    // Set i of an array of words.
-    pub fn read(words: &[u64], i: usize) -> Self
-        requires { i * 2 + 1 < length words.now }
-        ensures { (p : ℕ) → member result p ≡ set_at words.now i p }
-    {
-        Self {
-            low: words[i * WORDS],
-            high: words[i * WORDS + 1],
-        }
-    }
-
-    // Makes the set that of number i in an array of words.
-    pub fn write(self, words: &mut [u64], i: usize)
-        requires { i * 2 + 1 < length words.old }
-        ensures { Put words.old i (member self) words.new }
-    {
-        words[i * WORDS] = self.low;
-        words[i * WORDS + 1] = self.high;
     }
 
     // The set with q in it too. A q that is no state's number adds nothing.
@@ -130,24 +110,25 @@ impl StateSet {
     {
         u64::count_ones(self.low) as usize + u64::count_ones(self.high) as usize
     }
-}
 
-// ---- one word of a set: the states of part w, of which there are 64
+    // Part w of the set.
+    pub fn part(self, w: usize) -> u64
+        requires { w < 2 }
+        ensures { (q : ℕ) → in_part w result q ≡ (is_part w q && member self q) }
+    {
+        if w == 0 { self.low } else { self.high }
+    }
 
-// Word w of set i of an array of words.
-pub fn word_at(words: &[u64], i: usize, w: usize) -> u64
-    requires { (w < 2)
-        × (i * 2 + w < length words.now) }
-    ensures { (q : ℕ) → in_part w result q ≡ (is_part w q && set_at words.now i q) }
-{
-    words[i * WORDS + w]
-}
-
-// Makes it this word.
-pub fn put_word(words: &mut [u64], i: usize, w: usize, word: u64)
-    requires { (w < 2)
-        × (i * 2 + w < length words.old) }
-    ensures { PutPart words.old i w (in_part w word) words.new }
-{
-    words[i * WORDS + w] = word;
+    // The set with this for part w.
+    pub fn with_part(mut self, w: usize, word: u64) -> Self
+        requires { w < 2 }
+        ensures { (q : ℕ) → member result q ≡ cond (is_part w q) (in_part w word q) (member self q) }
+    {
+        if w == 0 {
+            self.low = word;
+        } else {
+            self.high = word;
+        }
+        self
+    }
 }

@@ -1,6 +1,4 @@
 -- `reaching` meets its contract: what is joined over the predecessors is what `leads` says.
-use Prim.Native.Nat.{◌*◌}
-use native.Mathlib.Omega.{arith}
 use borrow.Author.Rules.{rules}
 use Rattle.theory.specs.Monitor.{state_limit}
 use Rattle.state_set.specs.Member.{member}
@@ -14,7 +12,7 @@ pub returns : goal.returns
 returns c =
     let rows = c.args.graph.now.rows in
     let closed = next_of_rows rows in
-    let sets = preceding {g = automaton c.args.graph.now} (state_limit * 2) (omega (arith, rows.states_most))
+    let sets = preceding {g = automaton c.args.graph.now} state_limit _ rows.states_most c.empty-sets.ensures
     (c.put_each.ensures _ (λ p a i lp la e. search rules)) in
     record {
       one = joined_leads closed (member c.args.one) sets (c.expand.ensures _ (λ q s upto e p. search rules));

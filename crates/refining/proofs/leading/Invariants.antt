@@ -1,6 +1,5 @@
 -- `leading` meets its contract: what was gathered, and what leads into the states that are left, make the whole.
 use mathlib.Core.Bool.{true}
-use Prim.Native.Nat.{ℕ}
 use Rattle.monitor.specs.Graph.{automaton}
 use Rattle.state_set.specs.Member.{member}
 use Rattle.rows.specs.Sets.{Within}

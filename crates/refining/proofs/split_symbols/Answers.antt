@@ -1,6 +1,5 @@
 -- `split_symbols` meets its contract: the symbols below a are done.
 use native.Mathlib.Omega.{arith}
-use Rattle.monitor.specs.Graph.{automaton}
 use Rattle.theory.specs.Monitor.{state_limit}
 use Rattle.state_set.specs.Member.{member}
 use Rattle.rows.proofs.Visit.{empty_none}

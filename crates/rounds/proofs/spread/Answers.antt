@@ -1,9 +1,11 @@
 -- `spread` meets its contract: the rows that lead to a state which is not left are done.
 use mathlib.Core.Path.{refl, sym, ◌∙◌}
+use native.Mathlib.Omega.{arith}
 use lib.Dec.{eqb}
 use borrow.Author.Tests.{ltb-true}
 use Rattle.theory.proofs.Below.{and_right}
-use Rattle.state_set.specs.Member.{member}
+use Rattle.state_set.specs.Member.{member, set_at}
+use Rattle.state_set.proofs.Sets.{set_put}
 use Rattle.rows.proofs.Visit.{stays}
 use Rattle.rounds.proofs.Rounds.{rows_below, spreading_begins, spreading_more, spreading_ends}
 use Rattle.rounds.proofs.spread.Goals as goal
@@ -26,7 +28,7 @@ invariant_of-front c =
     let both = c.intersection-states.ensures in
     record {
       row_inside = c.loop-row.invariant.0.at _ c.in-Some.ensures.steps.lowest.found;
-      states_inside = record { at = λ q t. ltb-true q P.graph.states (sym (P.states q) ∙ and_right (member c.read.result q) (member P.all q) (sym (both q) ∙ t)) };
+      states_inside = record { at = λ q t. ltb-true q P.graph.states (sym (P.states q) ∙ and_right (set_at c.loop-row.fresh.sets c.in-Some.row q) (member P.all q) (sym (both q) ∙ t)) };
       early = c.requires;
     }
 
@@ -37,8 +39,8 @@ loop-row-preserved c =
     let t = c.in-Some.ensures.steps in (
       record { at = λ q h. at.invariant.0.at q (stays (member at.row-iterator.left) (member c.next.new.self.left) (λ x. eqb x c.in-Some.row) t.others q h) },
       λ ends G N A L. spreading_more G L (at.invariant.1 ends G N A L) t (member P.all) refl P.states
-          (λ q. c.intersection-states.ensures q ∙ rw (c.read.ensures q))
-          c.empty.ensures c.write.ensures c.spread.ensures.goes,
+          c.intersection-states.ensures
+          c.empty.ensures (set_put _ c.in-Some.row _ (omega (arith, at.invariant.0.at _ t.lowest.found, P.graph.rows.states_most))) c.spread.ensures.goes,
       at.invariant.2,
       c.spread.ensures.stays ∙ at.invariant.3,
     )

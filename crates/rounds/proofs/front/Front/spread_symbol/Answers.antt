@@ -18,7 +18,7 @@ returns-then-left-eq0 c =
     let a = c.args.a in
     let v = c.args.v in
     let leading = c.part_of-leading in
-    let active = c.word_at in
+    let active = c.part in
     let left = in_part v (bit_and leading.result active.result) in
     record {
       stays = refl;
@@ -35,7 +35,7 @@ returns c =
     let w = c.args.w in
     let g = f.predecessors in
     let leading = c.part_of-leading in
-    let active = c.word_at in
+    let active = c.part in
     let left = in_part v (bit_and leading.result active.result) in
     let both = part_and v leading.result active.result in
     let from = λ (p : ℕ) (t : left p ≡ true).
