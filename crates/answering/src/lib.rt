@@ -1,7 +1,7 @@
 // The answers of the program `ask` about a body, the body of a rule of a collection, or that collection.
 #![tactic(auto)]
 
-use asking::asked::{Form, Subject};
+use asking::asked::{Form, Question, Subject};
 use asking::series::Ungathered;
 use basics::Refusal;
 use input::{TOO_LONG, Unread};
@@ -181,18 +181,17 @@ fn of_rule(
     Ok(())
 }
 
-// The answer to a form, without the end of its line. The input is the body or the collection; the series is the trace
-// or the proof of a form that has one.
+// The answer to a question, without the end of its line. The input is the body or the collection; the series is the
+// trace or the proof of a form that has one.
 pub fn answer(
     out: &mut impl Write,
-    subject: Subject,
-    form: Form,
+    question: Question,
     input: &[u8],
     series: &[u8],
 ) -> Result<(), Unanswered> {
-    match subject {
-        Subject::Body => of_body(out, form, input, series)?,
-        Subject::Rule(rule) => of_rule(out, rule, form, input, series)?,
+    match question.subject {
+        Subject::Body => of_body(out, question.form, input, series)?,
+        Subject::Rule(rule) => of_rule(out, rule, question.form, input, series)?,
         Subject::Collection => write!(out, "{}", Rules(collection::judge(input)?))?,
     }
     Ok(())

@@ -60,16 +60,20 @@ pub enum Form {
     },
 }
 
+// What is asked, and of what.
+#[derive(Clone, Copy)]
+pub struct Question {
+    pub subject: Subject,
+    pub form: Form,
+}
+
 #[derive(Clone, Copy)]
 pub enum Asked {
     Help,
     Why {
         number: usize,
     },
-    Form {
-        subject: Subject,
-        form: Form,
-    },
+    Form(Question),
     Write {
         room: usize,
         rules: usize,
@@ -176,10 +180,10 @@ fn form_asked<R: Env>(word: Word, rest: &mut Rest<'_, '_, R>) -> Option<Form> {
 fn rule_asked<R: Env>(rest: &mut Rest<'_, '_, R>) -> Option<Asked> {
     let rule = rest.number()?;
     let word = word_asked(rest)?;
-    Some(Asked::Form {
+    Some(Asked::Form(Question {
         subject: Subject::Rule(rule),
         form: form_asked(word, rest)?,
-    })
+    }))
 }
 
 // A collection to be written: behind the room stand rule numbers, a slash and body lengths.
@@ -217,7 +221,7 @@ fn question_asked<R: Env>(word: Word, rest: &mut Rest<'_, '_, R>) -> Option<Aske
         Word::Body => (Subject::Rule(rest.number()?), Form::Body),
         _ => (Subject::Body, form_asked(word, rest)?),
     };
-    Some(Asked::Form { subject, form })
+    Some(Asked::Form(Question { subject, form }))
 }
 
 // Reads the arguments, one after the other, into a space that is lent. None where they ask nothing, or more than one

@@ -1,5 +1,5 @@
 -- A run has a place at least: what is first found to be other stands behind it.
-use Rattle.std.proofs.Common.{◌≡◌, refl, ap, sym, ◌∙◌, arith, ℕ, List, length, get_or, not, ◌<◌, ◌-◌, ◌⊎◌, inl, inr}
+use Rattle.std.proofs.Common.{◌≡◌, refl, ap, sym, ◌∙◌, arith, ℕ, List, length, not, ◌<◌, ◌-◌, inl, inr}
 use borrow.Author.Tests.{eq-eqb}
 use Rattle.theory.specs.Below.{first}
 use Rattle.theory.proofs.Below.{clash, lt_or_le, first_ge, first_here}

@@ -4,6 +4,7 @@ ghost use Rattle.std.specs.Prelude.{◌≤◌, ◌<◌, length};
 
 use crate::runs;
 use faults::{Fault, Kind, Symbols};
+use readings::Reading;
 use std::fmt::{Display, Formatter};
 use std::io::Write;
 use std::{fmt, io};
@@ -18,7 +19,7 @@ const COLUMNS: usize = 36;
 struct Trace {
     here: Symbols,
     other: Symbols,
-    reading: usize,
+    verdict: usize,
     count: Option<usize>,
 }
 
@@ -29,7 +30,7 @@ struct Sketch<'a> {
     sent: Trace,
     received: Trace,
     distance: usize,
-    domain: usize,
+    by: Reading,
     head: &'a [u8],
     rest: &'a [u8],
 }
@@ -80,20 +81,20 @@ fn together(messages: &[u8], at: usize) -> usize
     1
 }
 
-// A reading by its name: a mark in domain 3, a class in domain 6.
+// The name of a verdict: of a mark, or of a class.
 #[derive(Drop)]
-struct ReadingWord {
-    domain: usize,
-    reading: usize,
+struct VerdictWord {
+    by: Reading,
+    verdict: usize,
 }
 
-impl Display for ReadingWord {
+impl Display for VerdictWord {
     fn fmt<W: fmt::Write>(&self, f: &mut Formatter<W>) -> fmt::Result {
-        match (self.domain, self.reading) {
-            (3, 0) => write!(f, "not yet"),
-            (3, 1) => write!(f, "true"),
-            (3, _) => write!(f, "false"),
-            (_, class) => write!(f, "{}", printing::class_of(class)),
+        match (self.by, self.verdict) {
+            (Reading::Marks, 0) => write!(f, "not yet"),
+            (Reading::Marks, 1) => write!(f, "true"),
+            (Reading::Marks, _) => write!(f, "false"),
+            (Reading::Classes, class) => write!(f, "{}", printing::class_of(class)),
         }
     }
 }
@@ -221,9 +222,9 @@ impl Sketch<'_> {
         if to < end {
             return writeln!(out, " ..");
         }
-        let word = ReadingWord {
-            domain: self.domain,
-            reading: trace.reading,
+        let word = VerdictWord {
+            by: self.by,
+            verdict: trace.verdict,
         };
         write!(out, "  {word}")?;
         if let Some(n) = trace.count {
@@ -251,7 +252,7 @@ impl Sketch<'_> {
 }
 
 // The witness whose sent trace is given. Both tests hold of every witness.
-pub fn draw(out: &mut impl Write, sent: &[u8], witness: Witness, domain: usize) -> io::Result<()> {
+pub fn draw(out: &mut impl Write, sent: &[u8], witness: Witness, by: Reading) -> io::Result<()> {
     let before = witness.before;
     if before < sent.len() {
         let fault = fault_step(sent, witness);
@@ -261,17 +262,17 @@ pub fn draw(out: &mut impl Write, sent: &[u8], witness: Witness, domain: usize) 
                 sent: Trace {
                     here: fault.sent,
                     other: fault.received,
-                    reading: witness.sent,
+                    verdict: witness.sent,
                     count: witness.counts.sent,
                 },
                 received: Trace {
                     here: fault.received,
                     other: fault.sent,
-                    reading: witness.received,
+                    verdict: witness.received,
                     count: witness.counts.received,
                 },
                 distance: witness.distance,
-                domain,
+                by,
                 head: &sent[0..before],
                 rest: &sent[before + covered..],
             };

@@ -53,7 +53,8 @@ fn split_outputs(blocks: &mut Blocks, square: &mut [u16; SQUARE_SIZE], outputs: 
 
 // ---- the blocks that lead into a splitter
 
-// The states from which a leads into a set.
+// The states from which a leads into a set. `Predecessors::leading_into` gathers one word of a part of them, which is
+// half the work, and all that a round by pairs has need of.
 fn leading(predecessors: &Predecessors, a: usize, set: StateSet) -> StateSet
     requires { (a < predecessors.now.graph.symbols)
         × Within predecessors.now.graph.states (member set) }

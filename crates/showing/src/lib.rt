@@ -5,6 +5,7 @@ mod words;
 
 use classes::Classified;
 use faults::{FaultSet, Kind};
+use readings::Reading;
 use std::io;
 use std::io::Write;
 use theory::STATE_LIMIT;
@@ -16,10 +17,10 @@ fn finding(
     out: &mut impl Write,
     body: &[u8],
     set: usize,
-    domain: usize,
+    by: Reading,
     area: &mut [u8],
 ) -> io::Result<()> {
-    let answer = immunity::examine(body, set, domain, area);
+    let answer = immunity::examine(body, set, by as usize, area);
     if let Err(refusal) = answer {
         return writeln!(out, "{}", Refused(refusal));
     }
@@ -27,45 +28,46 @@ fn finding(
         return writeln!(out, "immune");
     };
     let sent = basics::part(area, 0, witness.distance);
-    drawing::traces::draw(out, sent, witness, domain)
+    drawing::traces::draw(out, sent, witness, by)
 }
 
 // The line that says which marks can be believed when they are received under one fault.
 fn believe_line(out: &mut impl Write, body: &[u8], set: usize, area: &mut [u8]) -> io::Result<()> {
+    let marks = Reading::Marks as usize;
     write!(
         out,
         "    believe:      true {}",
-        Belief(trust::believe(body, set, 3, 1, area))
+        Belief(trust::believe(body, set, marks, 1, area))
     )?;
     write!(
         out,
         ", false {}",
-        Belief(trust::believe(body, set, 3, 2, area))
+        Belief(trust::believe(body, set, marks, 2, area))
     )?;
     writeln!(
         out,
         ", not yet {}",
-        Belief(trust::believe(body, set, 3, 0, area))
+        Belief(trust::believe(body, set, marks, 0, area))
     )
 }
 
 // What is shown of one fault: the finding and, by marks, which of them can be believed. Both use one area.
-fn fault(out: &mut impl Write, body: &[u8], kind: Kind, domain: usize) -> io::Result<()> {
+fn fault(out: &mut impl Write, body: &[u8], kind: Kind, by: Reading) -> io::Result<()> {
     let mut area = [0u8; WITNESS_ROOM];
     let set = FaultSet::empty().with(kind).number();
     write!(out, "  ")?;
     output::padded(out, words::fault_name(kind), 16)?;
-    finding(out, body, set, domain, &mut area)?;
-    if domain == 3 {
+    finding(out, body, set, by, &mut area)?;
+    if by == Reading::Marks {
         believe_line(out, body, set, &mut area)?;
     }
     Ok(())
 }
 
 // Each fault alone, in the written order.
-fn faults_by(out: &mut impl Write, body: &[u8], domain: usize) -> io::Result<()> {
+fn faults_by(out: &mut impl Write, body: &[u8], by: Reading) -> io::Result<()> {
     for kind in Kind::ALL {
-        fault(out, body, kind, domain)?;
+        fault(out, body, kind, by)?;
     }
     Ok(())
 }
@@ -96,9 +98,9 @@ fn table(
     drawing::states::class_lines(out, classes)?;
     drawing::settled::line(out, monitor::drawn_marks(body), classes)?;
     writeln!(out, "by marks")?;
-    faults_by(out, body, 3)?;
+    faults_by(out, body, Reading::Marks)?;
     writeln!(out, "by classes")?;
-    faults_by(out, body, 6)
+    faults_by(out, body, Reading::Classes)
 }
 
 // The card of a rule, or why its body is refused.
