@@ -63,10 +63,12 @@ pub record DemandOne (limit : ℕ) (body file area : List ℕ) : Type 0 where
   pub table : Judged (table_questions limit body) no_values (judge_answer limit body)
   -- after those a step is asked 10, 11, 12, and a trace 10, 12
   pub step : (d q a : ℕ)
-      → Judged (table_questions limit body ++ step_questions d q a (monitor_of body)) (step_figures d q a (monitor_of body))
+      → Judged (table_questions limit body ++ step_questions d q a (monitor_of body))
+      (step_figures d q a (monitor_of body))
       (step_answer limit body d q a)
   pub trace : (d : ℕ) (w : List ℕ)
-      → Judged (table_questions limit body ++ trace_questions d w (monitor_of body)) (trace_figures d w (monitor_of body))
+      → Judged (table_questions limit body ++ trace_questions d w (monitor_of body))
+      (trace_figures d w (monitor_of body))
       (trace_answer limit body d w)
   -- a certificate 9, 10 and 14 to 18
   pub certificate : (set d : ℕ) (c : List ℕ)

@@ -72,7 +72,8 @@ pub record DemandTwo (limit : ℕ) (b : List ℕ) (set d room : ℕ) : Type 0 wh
   pub immune_exactly : Askable set d → (fault_answer limit b set d room ≡ answered none) ↔ Unharmed (monitor_of b) d set
   -- else there is a first witness, a shortest one
   pub harmed : ¬ (Unharmed (monitor_of b) d set)
-      → (s : Series) × FirstWitness (monitor_of b) d set s × Distance (monitor_of b) d set (number (length (sent_trace s)))
+      → (s : Series) × FirstWitness (monitor_of b) d set s
+      × Distance (monitor_of b) d set (number (length (sent_trace s)))
   -- which is told where the area lent holds it
   pub witness : Askable set d → (s : Series) → FirstWitness (monitor_of b) d set s
       → Told (monitor_of b) d (fault_answer limit b set d) (fault_trace b set d) s

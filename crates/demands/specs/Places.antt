@@ -166,7 +166,8 @@ pub record Places (limit : ℕ) (b file : List ℕ) : Type 0 where
       (λ i. symbols_of b ≤ a)
   pub certificate : (set d : ℕ) (c : List ℕ) → CertificatePlaces limit b set d c
   -- 23 and 24: "their place is the entry, from 0"
-  pub rules : Means (collection_answer file) (collection_questions file) 23 0 (count_of file) (NotGreater (rule_of file))
+  pub rules : Means (collection_answer file) (collection_questions file) 23 0 (count_of file)
+      (NotGreater (rule_of file))
   pub bodies : Means (collection_answer file) (collection_questions file) 24 0 (count_of file) (Misplaced file)
   -- 23 of the writer: "for 23 and bodies the place is the entry"
   pub given_rules : (rules lengths bodies : List ℕ) (room : ℕ)

@@ -32,9 +32,11 @@ pub record TrustedVerdicts (limit : ℕ) (b : List ℕ) (set d v : ℕ) : Type 0
   pub answers : (room : ℕ) (values : FaultFigures) → trust_answer limit b set d v room ≡ answered values
       → Believed (monitor_of b) d set v values (trust_trace b set d v)
   -- there is only one first witness
-  pub first : (s t : Series) → FirstMisreading (monitor_of b) d set v s → FirstMisreading (monitor_of b) d set v t → s ≡ t
+  pub first : (s t : Series) → FirstMisreading (monitor_of b) d set v s → FirstMisreading (monitor_of b) d set v t
+      → s ≡ t
   -- "a table is immune exactly if every verdict of the chosen reading is trustworthy"
   pub immune : (room : ℕ) → Askable set d
-      → (fault_answer limit b set d room ≡ answered none) ↔ ((u : ℕ) → u < verdicts_of d → Trusted (monitor_of b) d set u)
+      → (fault_answer limit b set d room ≡ answered none)
+      ↔ ((u : ℕ) → u < verdicts_of d → Trusted (monitor_of b) d set u)
   -- "trust under one fault is trust under any number, each from sent to received"
   pub any_number : Trusted (monitor_of b) d set v ↔ TrustedUnderAny (monitor_of b) d set v

@@ -9,8 +9,8 @@ use Rattle.partition.specs.declared.Blocks.{Blocks}
 abbrev pub block : Blocks → ℕ → ℕ
 block blocks q = get_or blocks.numbers q 0
 
--- the states below n are in the blocks below the count, none of which is empty; set c has the states of block c, and two
--- states of one block, and no others, are not told apart
+-- the states below n are in the blocks below the count, none of which is empty; set c has the states of block c, and
+-- two states of one block, and no others, are not told apart
 pub record Partition (n : ℕ) (square : List ℕ) (blocks : Blocks) : Type 0 where
   pub few : n ≤ state_limit
   pub below : (q : ℕ) → q < n → block blocks q < blocks.count

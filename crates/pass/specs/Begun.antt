@@ -17,15 +17,15 @@ pub record Begun (test : Test) (outs : List ℕ) (row number : ℕ) (square : Li
   pub noted : (p q : ℕ) → p < length outs → set_at fresh p q ≡ (ltb q (length outs) && eqb (entry square p q) 0)
 
 -- one pair more: where p and q pass the test, their entry became 0 and q one of the fresh states of row p
-pub record PairBegun (test : Test) (outs : List ℕ) (p q : ℕ) (square : List ℕ) (fresh : List StateSet) (square' : List ℕ)
-    (fresh' : List StateSet) : Type 0 where
+pub record PairBegun (test : Test) (outs : List ℕ) (p q : ℕ) (square : List ℕ) (fresh : List StateSet)
+    (square' : List ℕ) (fresh' : List StateSet) : Type 0 where
   pub entered : Entered (length outs) square p (λ x. eqb x q && passing test outs p q) 0 square'
   pub noted : Put fresh p (λ x. set_at fresh p x || (eqb x q && passing test outs p q)) fresh'
 
 -- one row more: the states alike to p became the others that are not fresh, and p one of the rows if it has a fresh one
-pub record RowDone (n p : ℕ) (fresh alike : List StateSet) (rows : ℕ → Bool) (alike' : List StateSet) (rows' : ℕ → Bool) : Type 0
-  where
-    pub others : Put alike p (λ q. (ltb q n && not (set_at fresh p q)) && not (eqb q p)) alike'
-    pub same : (x : ℕ) → (x ≡ p → ⊥) → rows' x ≡ rows x
-    pub some : rows' p ≡ true → (rows p ≡ true) ⊎ ((q : ℕ) × (set_at fresh p q ≡ true))
-    pub all : (q : ℕ) → q < state_limit → set_at fresh p q ≡ true → rows' p ≡ true
+pub record RowDone (n p : ℕ) (fresh alike : List StateSet) (rows : ℕ → Bool) (alike' : List StateSet)
+    (rows' : ℕ → Bool) : Type 0 where
+  pub others : Put alike p (λ q. (ltb q n && not (set_at fresh p q)) && not (eqb q p)) alike'
+  pub same : (x : ℕ) → (x ≡ p → ⊥) → rows' x ≡ rows x
+  pub some : rows' p ≡ true → (rows p ≡ true) ⊎ ((q : ℕ) × (set_at fresh p q ≡ true))
+  pub all : (q : ℕ) → q < state_limit → set_at fresh p q ≡ true → rows' p ≡ true

@@ -32,8 +32,8 @@ impl StateSet {
         Self { low: 0, high: 0 }
     }
 
-    // The set with q in it too. A q that is no state's number adds nothing. Branches tell the words apart, here and below,
-    // and not a part of q: each is a fact about one bit of one word, with no rest of a division.
+    // The set with q in it too. A q that is no state's number adds nothing. Branches tell the words apart, here and
+    // below, and not a part of q: each is a fact about one bit of one word, with no rest of a division.
     pub fn with(mut self, q: usize) -> Self
         ensures { (p : ℕ) → member result p ≡ (member self p || (eqb p q && ltb q state_limit)) }
     {
