@@ -29,6 +29,7 @@ fn write_blocks(table: &Table, reading: Reading, area: &mut [u8])
     let mut outputs = [0u8; STATE_LIMIT];
     reading.write(table, &mut outputs);
     let mut workspace = Workspace::new();
+    square::clear(&mut workspace.square, n);
     let found = refining::enter(
         &mut workspace.square,
         &mut workspace.predecessors,

@@ -170,7 +170,7 @@ impl<'a> Blocks<'a> {
             (steps set.bits self.now.table.now.graph.symbols) }
     {
         for kind in Kind::ALL {
-            if set.has(kind) && self.parts_of_kind(p, kind) {
+            if set.contains(kind) && self.parts_of_kind(p, kind) {
                 return true;
             }
         }

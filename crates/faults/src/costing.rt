@@ -84,7 +84,7 @@ impl Costing<'_> {
         ensures { Cheapest (automaton self.now.distances.graph.now) self.now.distances.square.now p
             (Upto (OfHeld self.now.set.bits self.now.distances.graph.now.symbols) (rank_of kind + 1)) bound result }
     {
-        if self.set.has(kind) {
+        if self.set.contains(kind) {
             let fault = crate::fault_of(kind, 0, 0);
             if fault.sent.count <= basics::least_of(bound, least) {
                 return basics::least_of(self.cost_of_kind(p, kind), least);

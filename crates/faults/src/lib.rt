@@ -119,11 +119,18 @@ impl FaultSet {
         self.bits
     }
 
+    // Whether the set has the kind of this rank.
+    pub fn has(self, rank: usize) -> bool
+        ensures { result ≡ holds self.bits rank }
+    {
+        has_bit(self.bits, rank)
+    }
+
     // Whether the set has the kind.
-    pub fn has(self, kind: Kind) -> bool
+    pub fn contains(self, kind: Kind) -> bool
         ensures { result ≡ holds self.bits (rank_of kind) }
     {
-        has_bit(self.bits, kind.rank())
+        self.has(kind.rank())
     }
 }
 

@@ -42,7 +42,7 @@ impl FaultSet {
         ensures placed { (k : ℕ) → 0 < k → PlacedNext k result }
     {
         for kind in Kind::ALL {
-            if kind.rank() >= rank && self.has(kind) {
+            if kind.rank() >= rank && self.contains(kind) {
                 return Some(Cursor {
                     kind,
                     first: 0,

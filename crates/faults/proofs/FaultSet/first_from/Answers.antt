@@ -4,21 +4,21 @@ use native.Mathlib.Omega.{arith}
 use Rattle.faults.specs.declared.Kind.TheVariants.{Loss}
 use Rattle.faults.proofs.ByKind.{listed_rank}
 use Rattle.faults.proofs.Rest.{lacked_held, lacked_on, lacked_end}
-use Rattle.faults.proofs.FaultSet.first_from.Goals.{else-rank-via-then-rank+else-has, else-rank-via-else-rank}
+use Rattle.faults.proofs.FaultSet.first_from.Goals.{else-rank-via-then-rank+else-contains, else-rank-via-else-rank}
 use Rattle.faults.proofs.FaultSet.first_from.Goals as goal
 
-pub returns-then-has-clause-rest : goal.returns-then-has-clause-rest
-returns-then-has-clause-rest c =
+pub returns-then-contains-clause-rest : goal.returns-then-contains-clause-rest
+returns-then-contains-clause-rest c =
     let at = c.loop-kind in
     let rank = listed_rank at.kind-index _ c.loop-kind-test.true in
-    lacked_held _ _ at.invariant _ rank (omega (arith, rank, c.rank.ensures)) (sym c.has.ensures ∙ c.if-has.true)
+    lacked_held _ _ at.invariant _ rank (omega (arith, rank, c.rank.ensures)) (sym c.contains.ensures ∙ c.if-contains.true)
 
 pub loop-kind-preserved : goal.loop-kind-preserved
 loop-kind-preserved c =
     let at = c.loop-kind in
     let rank = listed_rank at.kind-index Loss c.loop-kind-test.true in
     elim c.else-rank.branch [
-      | else-rank-via-then-rank+else-has w ↦ lacked_on _ _ at.invariant c.loop-kind-test.true (λ _. rw rank at (sym w.has.ensures ∙ w.if-has.false))
+      | else-rank-via-then-rank+else-contains w ↦ lacked_on _ _ at.invariant c.loop-kind-test.true (λ _. rw rank at (sym w.contains.ensures ∙ w.if-contains.false))
       | else-rank-via-else-rank w ↦ lacked_on _ _ at.invariant c.loop-kind-test.true (λ h. absurd (omega (arith, h, rank, c.rank.ensures, w.if-rank.false)))
     ]
 

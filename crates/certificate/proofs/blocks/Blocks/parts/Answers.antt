@@ -8,7 +8,7 @@ use Rattle.theory.proofs.Scan.{scan_begins, scan_some, scan_none, scan_goes_on}
 use Rattle.monitor.specs.Graph.{automaton}
 use Rattle.faults.specs.Rest.{steps_if_held}
 use Rattle.faults.proofs.ByKind.{listed_rank}
-use Rattle.certificate.proofs.blocks.Blocks.parts.Goals.{else-has-via-then-has+else-parts_of_kind, else-has-via-else-has}
+use Rattle.certificate.proofs.blocks.Blocks.parts.Goals.{else-contains-via-then-contains+else-parts_of_kind, else-contains-via-else-contains}
 use Rattle.certificate.proofs.blocks.Blocks.parts.Goals as goal
 
 -- whether a kind of the set does so, by its rank
@@ -31,7 +31,7 @@ returns-then-parts_of_kind c =
     let f = parts g b.numbers.now c.args.p in
     let rank = listed_rank c.loop-kind.kind-index _ c.loop-kind-test.true in
     scan_some c.loop-kind.invariant c.loop-kind-test.true
-    (held f c.args.set.bits g.symbols rank (sym c.has.ensures ∙ c.if-has.true) c.parts_of_kind.ensures ∙ c.if-parts_of_kind.true)
+    (held f c.args.set.bits g.symbols rank (sym c.contains.ensures ∙ c.if-contains.true) c.parts_of_kind.ensures ∙ c.if-parts_of_kind.true)
     ∙ sym (any_in_each f kinds (steps_if_held c.args.set.bits g.symbols))
 
 pub loop-kind-preserved : goal.loop-kind-preserved
@@ -40,11 +40,11 @@ loop-kind-preserved c =
     let g = automaton b.table.now.graph in
     let f = parts g b.numbers.now c.args.p in
     let rank = listed_rank c.loop-kind.kind-index _ c.loop-kind-test.true in
-    elim c.else-has.branch [
-      | else-has-via-then-has+else-parts_of_kind w ↦ scan_goes_on c.loop-kind.invariant c.loop-kind-test.true
-          (held f c.args.set.bits g.symbols rank (sym c.has.ensures ∙ w.if-has.true) w.parts_of_kind.ensures ∙ w.if-parts_of_kind.false)
-      | else-has-via-else-has w ↦ scan_goes_on c.loop-kind.invariant c.loop-kind-test.true
-          (lacked f c.args.set.bits g.symbols rank (sym c.has.ensures ∙ w.if-has.false))
+    elim c.else-contains.branch [
+      | else-contains-via-then-contains+else-parts_of_kind w ↦ scan_goes_on c.loop-kind.invariant c.loop-kind-test.true
+          (held f c.args.set.bits g.symbols rank (sym c.contains.ensures ∙ w.if-contains.true) w.parts_of_kind.ensures ∙ w.if-parts_of_kind.false)
+      | else-contains-via-else-contains w ↦ scan_goes_on c.loop-kind.invariant c.loop-kind-test.true
+          (lacked f c.args.set.bits g.symbols rank (sym c.contains.ensures ∙ w.if-contains.false))
     ]
 
 pub returns : goal.returns

@@ -13,7 +13,7 @@ use Rattle.faults.proofs.costing.Costing.least_with.Goals as goal
 
 pub returns-then-fault-least_of : goal.returns-then-fault-least_of
 returns-then-fault-least_of c =
-    let held = sym c.has.ensures ∙ c.if-has.true in
+    let held = sym c.contains.ensures ∙ c.if-contains.true in
     upto_goes_on c.requires.cheapest
     (cheapest_same (λ s h. h.1) (λ s h. (held, h)) (cheapest_within _ c.cost_of_kind.ensures)) c.least_of-then-fault-least_of.ensures
 
@@ -28,5 +28,5 @@ returns-else-fault-least_of c =
     covers_least (automaton distances.graph.now) distances.square.now c.args.p (rank_of c.args.kind) distances.graph.now.symbols
     (omega (arith, c.if-fault-least_of.false, c.least_of.ensures, count, covered)) t h.1)
 
-pub returns-else-has : goal.returns-else-has
-returns-else-has c = upto_passes c.requires.cheapest (λ t h. absurd (clash h.0 (sym c.has.ensures ∙ c.if-has.false)))
+pub returns-else-contains : goal.returns-else-contains
+returns-else-contains c = upto_passes c.requires.cheapest (λ t h. absurd (clash h.0 (sym c.contains.ensures ∙ c.if-contains.false)))
