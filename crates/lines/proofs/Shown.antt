@@ -62,7 +62,8 @@ unfolding answer_texts
 texts_append [] ys = refl
 texts_append (x ∷ xs) ys = rw (texts_append xs ys)
 
-distance_texts_lem : (m : Monitor) (n : ℕ) → answer_texts (each n (λ c. answered (column_figures c m) ∷ [])) ≡ each n (λ c. distance_text (distance m 3 (2 ^ c)) ∷ [])
+distance_texts_lem : (m : Monitor) (n : ℕ) → answer_texts (each n (λ c. answered (column_figures c m) ∷ [])) ≡ each n
+    (λ c. distance_text (distance m 3 (2 ^ c)) ∷ [])
 unfolding answer_texts each
 distance_texts_lem m zero = refl
 distance_texts_lem m (suc n) =

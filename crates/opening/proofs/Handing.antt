@@ -28,7 +28,8 @@ pub record Accepts (limit : ℕ) (b : List ℕ) (t : Shape) (space : List ℕ) :
 
 module _ (limit : ℕ) (b : List ℕ) where
   -- a refused body: the answer, and the area as it was
-  pub opens_not : (x : Refusal) → refusal x ≡ judge_answer limit b → (area : List ℕ) → (r : Result Shape Refusal) → opened r ≡ refusal x → Opens limit b area r area
+  pub opens_not : (x : Refusal) → refusal x ≡ judge_answer limit b → (area : List ℕ) → (r : Result Shape Refusal) → opened r ≡ refusal x
+      → Opens limit b area r area
   unfolding open_answer
   opens_not x e area r h =
       let no = refused_asks limit b [] (shape_of b) (sym e) in

@@ -1,1 +1,1 @@
-pub mod Unused
+pub mod Begins

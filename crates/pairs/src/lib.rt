@@ -6,7 +6,7 @@ ghost use Rattle.std.specs.Prelude.{◌≡◌, length};
 ghost use Rattle.monitor.specs.Graph.{automaton};
 ghost use Rattle.square.specs.Square.{Blank, Squared, passing};
 ghost use Rattle.rows.specs.Searching.{Stays};
-ghost use Rattle.pairs.specs.Unused.{Unused};
+ghost use Rattle.pairs.specs.Begins.{Begins};
 
 use monitor::Graph;
 use rows::{Fresh, PREDECESSORS, Predecessors, Search};
@@ -21,7 +21,7 @@ pub use workspace::Workspace;
 // Enters the distance of every two states: round by round, until no pair is fresh; the two lists of fresh pairs take
 // turns.
 fn enter_rounds(search: &mut Search, predecessors: &Predecessors, outputs: &[u8], test: Test)
-    requires { Unused predecessors.now.graph.states search.old
+    requires { Begins predecessors.now.graph.states search.old
         × (length outputs.now ≡ predecessors.now.graph.states) }
     ensures stays { Stays search.old search.new }
     ensures squared { Squared (automaton predecessors.now.graph) (passing test outputs.now)

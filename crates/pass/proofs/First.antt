@@ -78,7 +78,8 @@ module _ {test : Test} {outs : List ℕ} {p q : ℕ} {square : List ℕ} {fresh 
     noted = record { size = refl; here = λ x. rw (says, and-false (eqb x q)) (sym (or-false (set_at fresh p x))); elsewhere = λ j x ne. refl };
   }
 
-module _ (n : ℕ) {p : ℕ} (fresh : List StateSet) {alike alike' : List StateSet} {apart left : ℕ → Bool} (lp : p < state_limit) (is : (q : ℕ) → apart q ≡ set_at fresh p q)
+module _ (n : ℕ) {p : ℕ} (fresh : List StateSet) {alike alike' : List StateSet} {apart left : ℕ → Bool} (lp : p < state_limit)
+    (is : (q : ℕ) → apart q ≡ set_at fresh p q)
     (il : (q : ℕ) → left q ≡ ((ltb q n && not (apart q)) && not (eqb q p && ltb p state_limit))) (P : Put alike p left alike') where
   others : Put alike p (λ q. (ltb q n && not (set_at fresh p q)) && not (eqb q p)) alike'
   others = record {
@@ -103,7 +104,8 @@ module _ (n : ℕ) {p : ℕ} (fresh : List StateSet) {alike alike' : List StateS
 
 -- ---- one pair more, one row more
 
-module _ {test : Test} {outs : List ℕ} (small : length outs ≤ state_limit) {p k : ℕ} (lp : p < length outs) {square : List ℕ} {alike fresh : List StateSet} {rows : ℕ → Bool}
+module _ {test : Test} {outs : List ℕ} (small : length outs ≤ state_limit) {p k : ℕ} (lp : p < length outs) {square : List ℕ}
+    {alike fresh : List StateSet} {rows : ℕ → Bool}
     (b : Begun test outs p k square alike fresh rows) where
   abbrev n : ℕ
   n = length outs
@@ -254,11 +256,13 @@ pub record Walking (test : Test) (outs : List ℕ) (at : Position) (square : Lis
   pub on : On (length outs) at
   pub begun : Begun test outs at.row at.number square alike fresh rows
 
-pub walking_none : {test : Test} {outs square : List ℕ} {alike fresh : List StateSet} {rows : ℕ → Bool} {at : Position} → Begun test outs 0 0 square alike fresh rows
+pub walking_none : {test : Test} {outs square : List ℕ} {alike fresh : List StateSet} {rows : ℕ → Bool} {at : Position}
+    → Begun test outs 0 0 square alike fresh rows
     → at ≡ start → Walking test outs at square alike fresh rows
 walking_none b e = rw e (record { most = zero-le; on = on_start; begun = b })
 
-module _ {test : Test} {outs : List ℕ} {at : Position} {square : List ℕ} {alike fresh : List StateSet} {rows : ℕ → Bool} (W : Walking test outs at square alike fresh rows) where
+module _ {test : Test} {outs : List ℕ} {at : Position} {square : List ℕ} {alike fresh : List StateSet} {rows : ℕ → Bool}
+    (W : Walking test outs at square alike fresh rows) where
   pub walking_over : length outs * length outs ≤ at.number → Begun test outs (length outs) (length outs * length outs) square alike fresh rows
   walking_over l =
       let m = W.most in
@@ -273,7 +277,8 @@ module _ {test : Test} {outs : List ℕ} {at : Position} {square : List ℕ} {al
     pub walking_less : length outs * length outs - after.number < length outs * length outs - at.number
     walking_less = rw by_step (omega (arith, l))
 
-    module _ (small : length outs ≤ state_limit) {square' : List ℕ} {fresh' : List StateSet} (P : PairBegun test outs at.row at.column square fresh square' fresh') where
+    module _ (small : length outs ≤ state_limit) {square' : List ℕ} {fresh' : List StateSet}
+        (P : PairBegun test outs at.row at.column square fresh square' fresh') where
       more : Begun test outs at.row (at.number + 1) square' alike fresh' rows
       more = begun_pair small (on_row W.on l) W.begun (on_column W.on l) (on_numbered W.on l) P
 

@@ -227,7 +227,8 @@ block_within {n} {c} {blocks = blocks} P lc is = record {
 }
 
 -- the splitters below c are done: no symbol leads one of two states of a block into one of them, and not the other
-pub record Refining (g : Automaton) (ends : ℕ → ℕ → Bool) (r old : ℕ) (square₀ : List ℕ) (blocks₀ : Blocks) (c : ℕ) (square : List ℕ) (blocks : Blocks) : Type 0 where
+pub record Refining (g : Automaton) (ends : ℕ → ℕ → Bool) (r old : ℕ) (square₀ : List ℕ) (blocks₀ : Blocks) (c : ℕ) (square : List ℕ)
+    (blocks : Blocks) : Type 0 where
   pub finer : Finer g.states (r + 1) (λ p q. told g ends (suc r) p q ≡ true) square₀ blocks₀ square blocks
   pub done : (e a : ℕ) → old ≤ e → e < c → a < g.symbols → Stable g.states (λ q. eqb (block blocks₀ (g.next q a)) e) blocks
 

@@ -22,7 +22,8 @@ use Rattle.rounds.specs.Layers.{Layer}
 
 -- ---- a round
 
-module _ {g : Automaton} {ends : ℕ → ℕ → Bool} {r : ℕ} {square : List ℕ} {alike fresh : List StateSet} {rows : ℕ → Bool} (L : Layer g ends r square alike fresh rows) where
+module _ {g : Automaton} {ends : ℕ → ℕ → Bool} {r : ℕ} {square : List ℕ} {alike fresh : List StateSet} {rows : ℕ → Bool}
+    (L : Layer g ends r square alike fresh rows) where
   -- before the round no pair is at r + 1
   pub layer_begins : {next active : List StateSet} → r + 1 < never → Empty g.states next → Active g.states alike active
       → Midway g ends r (λ p q a. false) square alike next active (λ p. false)

@@ -29,7 +29,8 @@ pub predecessor_in : {g : Automaton} {sets : List StateSet} → Preceding g (λ 
 predecessor_in {g} P x a p lx la t = ltb-true p g.states (and_left (ltb p g.states) (eqb (g.next p a) x) (sym (P.at x a p lx la) ∙ t))
 
 -- at first every row is active
-pub active_first : {g : Automaton} {ends : ℕ → ℕ → Bool} {r : ℕ} {square : List ℕ} {alike fresh : List StateSet} {rows : ℕ → Bool} → Layer g ends r square alike fresh rows
+pub active_first : {g : Automaton} {ends : ℕ → ℕ → Bool} {r : ℕ} {square : List ℕ} {alike fresh : List StateSet} {rows : ℕ → Bool}
+    → Layer g ends r square alike fresh rows
     → g.states ≤ state_limit → (active : List StateSet) → ((w p : ℕ) → w < 2 → p < g.states → set_at active w p ≡ true) → Active g.states alike active
 active_first {g} {square = square} L few active full = record {
   at = λ p q lp t.
@@ -41,7 +42,8 @@ active_first {g} {square = square} L few active full = record {
 -- ---- one symbol
 
 -- the active rows of part v from which a leads to x are those of the set, and they are done in the columns of part w
-pub symbol_done_lem : {g : Automaton} (x a v w : ℕ) {r : ℕ} {front : ℕ → Bool} {sets : List StateSet} {square₀ : List ℕ} {alike₀ next₀ active₀ : List StateSet} {rows₀ : ℕ → Bool} (set : ℕ → Bool)
+pub symbol_done_lem : {g : Automaton} (x a v w : ℕ) {r : ℕ} {front : ℕ → Bool} {sets : List StateSet} {square₀ : List ℕ}
+    {alike₀ next₀ active₀ : List StateSet} {rows₀ : ℕ → Bool} (set : ℕ → Bool)
     {square : List ℕ} {alike next active : List StateSet} {rows : ℕ → Bool} → x < g.states → a < g.symbols
     → ((p : ℕ) → set p ≡ ((is_part v p && set_at sets (x * symbol_limit + a) p) && (is_part v p && set_at active₀ w p)))
     → GoesAt g r x front (set_done (is_part w) set a) sets square₀ alike₀ next₀ active₀ rows₀ square alike next active rows
@@ -71,12 +73,14 @@ symbol_done_lem {g} x a v w {sets = sets} {active₀ = active₀} set lx la is s
 
 -- ---- one block
 
-module _ {g : Automaton} (x v w : ℕ) {r : ℕ} {front : ℕ → Bool} {sets : List StateSet} {square₀ : List ℕ} {alike₀ next₀ active₀ : List StateSet} {rows₀ : ℕ → Bool} where
+module _ {g : Automaton} (x v w : ℕ) {r : ℕ} {front : ℕ → Bool} {sets : List StateSet} {square₀ : List ℕ} {alike₀ next₀ active₀ : List StateSet}
+    {rows₀ : ℕ → Bool} where
   pub block_begins : GoesAt g r x front (block_done g x (is_part v) (is_part w) 0) sets square₀ alike₀ next₀ active₀ rows₀ square₀ alike₀ next₀ active₀ rows₀
   block_begins = goes_nowhere (block_done g x (is_part v) (is_part w) 0) (λ p q b lp t.
       clash (and_right (eqb (g.next p b) x) (ltb b 0) (and_right (is_part v p && is_part w q) (eqb (g.next p b) x && ltb b 0) t)) (le-ltb b 0 zero-le))
 
-  pub block_more : (a : ℕ) {square : List ℕ} {alike next active : List StateSet} {square' : List ℕ} {alike' next' active' : List StateSet} {rows rows' : ℕ → Bool}
+  pub block_more : (a : ℕ) {square : List ℕ} {alike next active : List StateSet} {square' : List ℕ} {alike' next' active' : List StateSet}
+      {rows rows' : ℕ → Bool}
       → GoesAt g r x front (block_done g x (is_part v) (is_part w) a) sets square₀ alike₀ next₀ active₀ rows₀ square alike next active rows
       → GoesAt g r x front (symbol_done g x (is_part v) (is_part w) a) sets square alike next active rows square' alike' next' active' rows'
       → GoesAt g r x front (block_done g x (is_part v) (is_part w) (a + 1)) sets square₀ alike₀ next₀ active₀ rows₀ square' alike' next' active' rows'
@@ -120,7 +124,8 @@ module _ {g : Automaton} {r x : ℕ} {front : ℕ → Bool} {sets : List StateSe
       (λ k. or_right (done_below state all v p q b) (each v p q b) (in_each v p q b (eq-eqb z v (omega (arith, k, l))) h))
       (lt_or_le z v))
 
-  pub parts_end : (v : ℕ) → ((p q : ℕ) → p < g.states → q < g.states → state p q / 64 < v) → {square : List ℕ} {alike next active : List StateSet} {rows : ℕ → Bool}
+  pub parts_end : (v : ℕ) → ((p q : ℕ) → p < g.states → q < g.states → state p q / 64 < v) → {square : List ℕ} {alike next active : List StateSet}
+      {rows : ℕ → Bool}
       → GoesAt g r x front (done_below state all v) sets square₀ alike₀ next₀ active₀ rows₀ square alike next active rows
       → GoesAt g r x front all sets square₀ alike₀ next₀ active₀ rows₀ square alike next active rows
   parts_end v past before = goes_less all before
@@ -147,14 +152,16 @@ front_same F e = record {
 }
 
 -- the rows that lead to a state which is in the set and not left are done; the fresh states of those left are as they were
-pub record Spreading (g : Automaton) (ends : ℕ → ℕ → Bool) (r : ℕ) (rows left : ℕ → Bool) (fresh₀ fresh : List StateSet) (square : List ℕ) (alike next active : List StateSet)
+pub record Spreading (g : Automaton) (ends : ℕ → ℕ → Bool) (r : ℕ) (rows left : ℕ → Bool) (fresh₀ fresh : List StateSet) (square : List ℕ)
+    (alike next active : List StateSet)
     (found : ℕ → Bool) : Type 0 where
   pub midway : Midway g ends r (λ p q a. rows (g.next p a) && not (left (g.next p a))) square alike next active found
   pub size : g.states ≤ length fresh
   pub within : (x : ℕ) → left x ≡ true → rows x ≡ true
   pub fresh_left : (x q : ℕ) → x < g.states → set_at fresh x q ≡ (left x && set_at fresh₀ x q)
 
-module _ {g : Automaton} {ends : ℕ → ℕ → Bool} {r : ℕ} {square₀ : List ℕ} {alike₀ fresh₀ : List StateSet} {rows : ℕ → Bool} {sets : List StateSet} (G : Ground g ends sets)
+module _ {g : Automaton} {ends : ℕ → ℕ → Bool} {r : ℕ} {square₀ : List ℕ} {alike₀ fresh₀ : List StateSet} {rows : ℕ → Bool} {sets : List StateSet}
+    (G : Ground g ends sets)
     (L : Layer g ends r square₀ alike₀ fresh₀ rows) where
   -- the rows that are below the number of states are all the rows
   pub rows_below : (all left : ℕ → Bool) → ((q : ℕ) → all q ≡ ltb q g.states) → ((q : ℕ) → left q ≡ (rows q && all q)) → (q : ℕ) → left q ≡ rows q
@@ -204,7 +211,8 @@ module _ {g : Automaton} {ends : ℕ → ℕ → Bool} {r : ℕ} {square₀ : Li
           (λ l. rw (le-ltb y g.states l, L.kept.fresh_is x y row_in, le-ltb y g.states l))
           (lt_or_le y g.states))
 
-      pub spreading_more : (all : ℕ → Bool) {k : ℕ} {front none : ℕ → Bool} {fresh' : List StateSet} {square' : List ℕ} {alike' next' active' : List StateSet} {found' : ℕ → Bool} →
+      pub spreading_more : (all : ℕ → Bool) {k : ℕ} {front none : ℕ → Bool} {fresh' : List StateSet} {square' : List ℕ}
+          {alike' next' active' : List StateSet} {found' : ℕ → Bool} →
           g.symbols ≡ k
           → ((q : ℕ) → all q ≡ ltb q g.states) → ((q : ℕ) → front q ≡ (set_at fresh x q && all q))
           → ((q : ℕ) → none q ≡ false) → Put fresh x none fresh'

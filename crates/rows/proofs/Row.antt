@@ -58,7 +58,8 @@ kept_rows k e = record {
 }
 
 -- what is not told apart from p, and is another state, is among the alike
-pub told_alike : {g : Automaton} {ends : ℕ → ℕ → Bool} {predecessors : List StateSet} → Ground g ends predecessors → (r p a q : ℕ) {d : ℕ} {square : List ℕ} {alike next : List StateSet}
+pub told_alike : {g : Automaton} {ends : ℕ → ℕ → Bool} {predecessors : List StateSet} → Ground g ends predecessors → (r p a q : ℕ) {d : ℕ}
+    {square : List ℕ} {alike next : List StateSet}
     {rows : ℕ → Bool} → Kept g.states d g.states square alike next rows → p < g.states → a < g.symbols → q < g.states
     → told g ends r (g.next p a) (g.next q a) ≡ true → entry square p q ≡ never → set_at alike p q ≡ true
 told_alike {g} {ends} G r p a q {square = square} K lp la lq t e =
@@ -90,7 +91,8 @@ retired_done {g} {ends} G {r} {done} {square} {active = active} M = record {
 
 module _ {g : Automaton} {ends : ℕ → ℕ → Bool} {predecessors : List StateSet} (G : Ground g ends predecessors) {r : ℕ} (fits : r + 1 < never)
     {p a : ℕ} (lp : p < g.states) (la : a < g.symbols) {front : ℕ → Bool} (F : Front g ends r (g.next p a) front)
-    {done : ℕ → ℕ → ℕ → Bool} {square : List ℕ} {alike next active : List StateSet} {rows : ℕ → Bool} (M : Midway g ends r done square alike next active rows) where
+    {done : ℕ → ℕ → ℕ → Bool} {square : List ℕ} {alike next active : List StateSet} {rows : ℕ → Bool}
+    (M : Midway g ends r done square alike next active rows) where
   abbrev n : ℕ
   n = g.states
 
@@ -313,7 +315,8 @@ put_as f h P e = record { size = P.size; here = λ q. P.here q ∙ e q; elsewher
 
 -- a set stored with another part, of which the states are known, is the set so changed
 pub put_part : {before after : List StateSet} {p : ℕ} (w : ℕ) (f h : ℕ → Bool) {test : ℕ → Bool} → Put before p test after
-    → ((q : ℕ) → test q ≡ cond (is_part w q) (f q) (set_at before p q)) → ((q : ℕ) → is_part w q ≡ true → f q ≡ h q) → ((q : ℕ) → is_part w q ≡ false → set_at before p q ≡ h q) → Put before p h after
+    → ((q : ℕ) → test q ≡ cond (is_part w q) (f q) (set_at before p q)) → ((q : ℕ) → is_part w q ≡ true → f q ≡ h q) →
+    ((q : ℕ) → is_part w q ≡ false → set_at before p q ≡ h q) → Put before p h after
 put_part {before} {after} {p} w f h P is inside outside = record {
   size = P.size;
   here = λ q. P.here q ∙ is q ∙ go q (is_part w q) refl;
@@ -358,10 +361,12 @@ module _ (w : ℕ) {g : Automaton} (p a r : ℕ) (fits : r + 1 < never) (lp : p 
           (new_is (I G.closed G.preceding) (set_at alike p) new here H N) none;
     }
 
-    pub row_new : {square' : List ℕ} {alike' next' active' : List StateSet} {alike'' next'' left more old rows' : ℕ → Bool} {word : ℕ} → (q : ℕ) × (new q ≡ true)
+    pub row_new : {square' : List ℕ} {alike' next' active' : List StateSet} {alike'' next'' left more old rows' : ℕ → Bool} {word : ℕ} → (q : ℕ) ×
+        (new q ≡ true)
         → Entered state_limit square p new (r + 1) square'
         → Put alike p alike'' alike' → ((q : ℕ) → alike'' q ≡ cond (is_part w q) (left q) (set_at alike p q)) → ((q : ℕ) → left q ≡ (here q && not (new q)))
-        → Put next p next'' next' → ((q : ℕ) → next'' q ≡ cond (is_part w q) (more q) (set_at next p q)) → ((q : ℕ) → more q ≡ (old q || new q)) → ((q : ℕ) → old q ≡ (is_part w q && set_at next p q))
+        → Put next p next'' next' → ((q : ℕ) → next'' q ≡ cond (is_part w q) (more q) (set_at next p q)) → ((q : ℕ) → more q ≡ (old q || new q)) →
+        ((q : ℕ) → old q ≡ (is_part w q && set_at next p q))
         → Retired p w word active active' → (word ≡ 0 → (q : ℕ) → left q ≡ false)
         → ((q : ℕ) → rows' q ≡ (rows q || (eqb q p && ltb p state_limit)))
         → GoesAt g r (g.next p a) front (row_done (is_part w) p a) sets square alike next active rows square' alike' next' active' rows'

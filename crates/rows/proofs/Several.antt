@@ -16,7 +16,8 @@ use Rattle.rows.specs.Midway.{Midway, GoesAt, row_done, set_done}
 -- ---- steps of a round, one after the other
 
 -- where less is done, what is done stays
-pub midway_less : {g : Automaton} {ends : ℕ → ℕ → Bool} {r : ℕ} {done less : ℕ → ℕ → ℕ → Bool} {square : List ℕ} {alike next active : List StateSet} {rows : ℕ → Bool}
+pub midway_less : {g : Automaton} {ends : ℕ → ℕ → Bool} {r : ℕ} {done less : ℕ → ℕ → ℕ → Bool} {square : List ℕ} {alike next active : List StateSet}
+    {rows : ℕ → Bool}
     → Midway g ends r done square alike next active rows
     → ((p q a : ℕ) → p < g.states → q < g.states → a < g.symbols → less p q a ≡ true → done p q a ≡ true)
     → Midway g ends r less square alike next active rows
@@ -49,7 +50,8 @@ module _ {g : Automaton} {r x : ℕ} {front : ℕ → Bool} {sets : List StateSe
     goes = λ ends done G F M. midway_less M (λ p q b lp lq lb t. ⊎_elim (λ o. o) (λ h. absurd (none p q b lp h)) (or_cases (done p q b) (less p q b) t));
   }
 
-  pub goes_then : {more then : ℕ → ℕ → ℕ → Bool} {square : List ℕ} {alike next active : List StateSet} {square' : List ℕ} {alike' next' active' : List StateSet} {rows rows' : ℕ → Bool}
+  pub goes_then : {more then : ℕ → ℕ → ℕ → Bool} {square : List ℕ} {alike next active : List StateSet} {square' : List ℕ}
+      {alike' next' active' : List StateSet} {rows rows' : ℕ → Bool}
       → GoesAt g r x front more sets square₀ alike₀ next₀ active₀ rows₀ square alike next active rows
       → GoesAt g r x front then sets square alike next active rows square' alike' next' active' rows'
       → GoesAt g r x front (λ p q b. more p q b || then p q b) sets square₀ alike₀ next₀ active₀ rows₀ square' alike' next' active' rows'
@@ -86,7 +88,8 @@ abbrev pub but_left : (ℕ → Bool) → (ℕ → ℕ → ℕ → Bool) → ℕ 
 but_left left more p q b = more p q b && not (left p)
 
 -- the row of a predecessor of x is one with x
-goes_into : {g : Automaton} {r : ℕ} (x a : ℕ) {front : ℕ → Bool} {more : ℕ → ℕ → ℕ → Bool} {sets : List StateSet} {square : List ℕ} {alike next active : List StateSet} {square' : List ℕ} {alike' next' active' : List StateSet}
+goes_into : {g : Automaton} {r : ℕ} (x a : ℕ) {front : ℕ → Bool} {more : ℕ → ℕ → ℕ → Bool} {sets : List StateSet} {square : List ℕ}
+    {alike next active : List StateSet} {square' : List ℕ} {alike' next' active' : List StateSet}
     {rows rows' : ℕ → Bool} (y : ℕ) → set_at sets (x * symbol_limit + a) y ≡ true → x < g.states → a < g.symbols
     → GoesAt g r (g.next y a) front more sets square alike next active rows square' alike' next' active' rows'
     → GoesAt g r x front more sets square alike next active rows square' alike' next' active' rows'
@@ -96,7 +99,8 @@ goes_into {g} x a y h lx la step = record {
       step.goes ends done G (rw e F) M;
 }
 
-module _ {g : Automaton} (x a : ℕ) {r : ℕ} {front : ℕ → Bool} {sets : List StateSet} {square₀ : List ℕ} {alike₀ next₀ active₀ : List StateSet} {rows₀ : ℕ → Bool} (columns set : ℕ → Bool) where
+module _ {g : Automaton} (x a : ℕ) {r : ℕ} {front : ℕ → Bool} {sets : List StateSet} {square₀ : List ℕ} {alike₀ next₀ active₀ : List StateSet}
+    {rows₀ : ℕ → Bool} (columns set : ℕ → Bool) where
   -- at the beginning all rows are left
   pub set_begins : GoesAt g r x front (but_left set (set_done columns set a)) sets square₀ alike₀ next₀ active₀ rows₀ square₀ alike₀ next₀ active₀ rows₀
   set_begins = goes_nowhere (but_left set (set_done columns set a)) (λ p q b lp t.
@@ -104,7 +108,8 @@ module _ {g : Automaton} (x a : ℕ) {r : ℕ} {front : ℕ → Bool} {sets : Li
       clash (and_left (set p) (eqb b a) (and_right (columns q) (set p && eqb b a) k.0)) k.1)
 
   -- one row more
-  pub set_more : (left left' : ℕ → Bool) (y : ℕ) {square : List ℕ} {alike next active : List StateSet} {square' : List ℕ} {alike' next' active' : List StateSet} {rows rows' : ℕ → Bool}
+  pub set_more : (left left' : ℕ → Bool) (y : ℕ) {square : List ℕ} {alike next active : List StateSet} {square' : List ℕ}
+      {alike' next' active' : List StateSet} {rows rows' : ℕ → Bool}
       → set_at sets (x * symbol_limit + a) y ≡ true → x < g.states → a < g.symbols → ((q : ℕ) → left' q ≡ (left q && not (eqb q y)))
       → GoesAt g r x front (but_left left (set_done columns set a)) sets square₀ alike₀ next₀ active₀ rows₀ square alike next active rows
       → GoesAt g r (g.next y a) front (row_done columns y a) sets square alike next active rows square' alike' next' active' rows'

@@ -54,7 +54,8 @@ module _ {number : ℕ → ℕ → ℕ} where
           go s b false h = or-false (s || false)
 
   -- the states before p, and then p
-  pub placed_next : (p : ℕ) {count : ℕ} {before sets after : List StateSet} → Placed number count (λ q. ltb q p) before sets → Placed number count (λ q. eqb q p) sets after
+  pub placed_next : (p : ℕ) {count : ℕ} {before sets after : List StateSet} → Placed number count (λ q. ltb q p) before sets → Placed number count
+      (λ q. eqb q p) sets after
       → Placed number count (λ q. ltb q (p + 1)) before after
   placed_next p {count} {before} P Q = record {
     size = Q.size ∙ P.size;

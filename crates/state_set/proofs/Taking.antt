@@ -88,7 +88,8 @@ module _ (word bit rest : ℕ) (t : Taken 64 (in_word word) bit (in_word rest)) 
         (λ p l. rw (high_from word high p l, ne_eqb p bit (λ e. omega (arith, e, l, t.lowest.below))) (sym (and-true (in_word high (p - 64)))));
   }
 
-  pub high_taken : (low low' : ℕ) → ((q : ℕ) → (in_word low q ≡ false) × (in_word low' q ≡ false)) → Taken 128 (in_words low word) (bit + 64) (in_words low' rest)
+  pub high_taken : (low low' : ℕ) → ((q : ℕ) → (in_word low q ≡ false) × (in_word low' q ≡ false)) → Taken 128 (in_words low word) (bit + 64)
+      (in_words low' rest)
   high_taken low low' none = record {
     lowest = record {
       found = high_from low word (bit + 64) (omega arith) ∙ rw past t.lowest.found;
