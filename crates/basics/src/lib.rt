@@ -13,7 +13,7 @@ pub use scan::{any_below, first_in};
 pub fn least_of(a: usize, b: usize) -> usize
     ensures { result ≡ min a b }
 {
-    if a < b { a } else { b }
+    a.min(b)
 }
 
 // The byte at i, or 0 past the end.

@@ -2,7 +2,8 @@
 ghost use Rattle.std.specs.Prelude.{◌≡◌, ◌+◌, ◌^◌, ◌<◌, ◌≤◌, ℕ, Bool};
 ghost use Rattle.theory.specs.Below.{any, first};
 
-// The first of the `count` numbers from `from` on that passes the test, or the one behind them.
+// The first of the `count` numbers from `from` on that passes the test, or the one behind them: the end stands for
+// none, as in the definition `first`, by which answers are said.
 pub fn first_in<F: Fn(usize) -> bool>(from: usize, count: usize, passes: F) -> usize
     requires fits { from + count < 2 ^ 64 }
     requires callable { (i : ℕ) → from ≤ i → i < from + count → F.pre passes i }

@@ -43,7 +43,8 @@ fn received_count(table: &Table, trace: &[u8], before: usize, fault: Fault) -> O
     readings::count_at(table.marks(), three.state, one.read + two.read + three.read)
 }
 
-// Both counts, for a sent trace that a fault strikes behind so many symbols.
+// Both counts, for a sent trace that a fault strikes behind so many symbols. One by one, since the caller holds the
+// trace in its area, and the fault and its place in what it has found.
 pub fn counts_of(table: &Table, trace: &[u8], before: usize, fault: Fault) -> Counts
     requires { FaultWithin table.now.graph.symbols trace.now before fault }
     ensures sent { counted result.sent ≡ verdict_count (monitor_of_table table.now) trace.now }

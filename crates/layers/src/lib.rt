@@ -14,7 +14,7 @@ use theory::STATE_LIMIT;
 const FAR: u8 = 128;
 
 // The states found: `count` of them, which stand in the first places of `order`, none less deep than an earlier one,
-// and the depth of each state.
+// and the depth of each state. Arrays with a count, since there is no heap.
 #[derive(Clone, Copy)]
 pub struct Layers {
     pub order: [u8; STATE_LIMIT],

@@ -31,7 +31,7 @@ fn enter_rounds(search: &mut Search, predecessors: &Predecessors, outputs: &[u8]
     let mut next = Fresh::none();
     pass::begin(search, &mut fresh, outputs, predecessors.all, test);
     let mut r = 0u16;
-    // A while: how many rounds there are shows in the last one.
+    // A while: each round shows whether another is needed.
     'rounds: while !fresh.rows.is_empty() {
         rounds::spread(search, &mut fresh, &mut next, predecessors, r);
         rounds::spread(search, &mut next, &mut fresh, predecessors, r + 1);

@@ -36,7 +36,8 @@ fn enter_across(square: &mut [u16; SQUARE_SIZE], one: StateSet, others: StateSet
 
 // ---- blocks
 
-// The blocks of the states: block c has the states of set c, each of them its number.
+// The blocks of the states: block c has the states of set c, each of them its number. They stand in arrays with a
+// count, since there is no heap. The square is lent beside them, since they are handed out when the search is done.
 #[derive(Drop)]
 pub struct Blocks {
     numbers: [u8; STATE_LIMIT],

@@ -60,7 +60,8 @@ fn next_pair(at: Position, n: usize) -> Position
 
 // ---- the square before the first round
 
-// Enters 0 for p and q where the test tells them apart, and adds q to the fresh states of row p.
+// Enters 0 for p and q where the test tells them apart, and adds q to the fresh states of row p. Here and below a part
+// of the search is lent, the one that changes, so that nothing has to be said of the others.
 fn begin_pair(
     square: &mut [u16; SQUARE_SIZE],
     fresh: &mut Fresh,
@@ -110,7 +111,7 @@ pub fn begin(search: &mut Search, fresh: &mut Fresh, outputs: &[u8], all: StateS
 {
     let n = outputs.len();
     let mut at = first_pair();
-    // A while: the step of the pass counts the pairs itself.
+    // A while: the step counts the pairs itself, as `Passes` among the demands says of it.
     while at.number < n * n {
         begin_pair(search.square, fresh, outputs, test, at.row, at.column);
         // The step stands in both branches: in each the compiler knows whether the row ends, and has less to do.

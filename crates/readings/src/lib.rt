@@ -21,7 +21,8 @@ use monitor::Table;
 pub use reading::Reading;
 use theory::STATE_LIMIT;
 
-// Whether this is a reading: 3 by marks, 6 by classes.
+// Whether this is a reading: 3 by marks, 6 by classes. Asked by number, as `verdicts_of` and `write_readings` are,
+// since docs/PROMISES.md names them so; the library goes by `Reading`.
 pub fn is_reading(domain: usize) -> bool
     ensures { result ≡ (eqb domain 3 || eqb domain 6) }
 {

@@ -8,7 +8,8 @@ ghost use Rattle.readings.specs.Domains.{domain_of, Decodes};
 use basics::{Reason, Refusal};
 use monitor::Table;
 
-// What is read of a state: its mark or its class. Its number is that of the call.
+// What is read of a state: its mark or its class. Calls are asked with any number, and refuse what is no reading;
+// behind that question it is one of these.
 #[derive(Clone, Copy, Debug, PartialEq, Eq)]
 pub enum Reading {
     Marks = 3,

@@ -8,7 +8,7 @@ ghost use Rattle.square.specs.Square.{never};
 ghost use Rattle.rows.specs.Sets.{Within};
 
 use rows::{Fresh, Predecessors, Search};
-use state_set::{StateSet, WORD};
+use state_set::{PARTS, StateSet, WORD};
 
 // The states at `distance` from the state of a row.
 #[derive(Clone, Copy)]
@@ -25,7 +25,8 @@ pub struct Front<'g, 's> {
 impl Front<'_, '_> {
     ghost use Rattle.rounds.specs.Fronts.{Adds, symbol_of, block_of, part_of, all_of};
 
-    // Does the active rows of part v from which a leads to the row's state, in the columns of part w.
+    // For each active row of part v from which a leads to the row's state: enters what the front adds in the columns of
+    // part w.
     fn spread_symbol(&self, search: &mut Search, next: &mut Fresh, a: usize, v: usize, w: usize)
         requires { (a < self.now.predecessors.graph.symbols)
             × (v < 2)
@@ -59,7 +60,7 @@ impl Front<'_, '_> {
             × ((q : ℕ) → q < self.now.predecessors.graph.states → q / 64 < result) }
     {
         if self.predecessors.graph.states > WORD {
-            2
+            PARTS
         } else {
             1
         }

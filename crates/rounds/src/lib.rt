@@ -17,8 +17,8 @@ mod front;
 
 use front::Front;
 
-// The round after r: from the fresh pairs, which are at r, to those at r + 1, each fresh pair once. No pair is fresh
-// afterwards but those at r + 1, which are next.
+// The round after r: takes each fresh pair, which is at r, once, and puts the pairs at r + 1 into `next`. Afterwards
+// `fresh` has none.
 pub fn spread(
     search: &mut Search,
     fresh: &mut Fresh,

@@ -32,7 +32,7 @@ pub fn all_below(n: usize) -> StateSet
 
 // ---- predecessors: a set for each state and symbol
 
-// The sets of predecessors of all states and symbols. They are made once and lent to one search after the other.
+// How many sets of predecessors there are: one for each state and symbol.
 pub const PREDECESSORS: usize = STATE_LIMIT * SYMBOL_LIMIT;
 
 // Empties the first n sets, whatever they held.

@@ -39,7 +39,8 @@ pub struct Search<'a> {
     pub active: [StateSet; PARTS],
 }
 
-// Enters d for p and each state of a word of part w.
+// Enters d for p and each state of a word of part w. A word and the number of its part are two values, here and in a
+// round: as one, each meeting of two words would have to ask that both are of one part.
 fn enter(square: &mut [u16; SQUARE_SIZE], p: usize, word: u64, w: usize, d: u16)
     requires { (p < state_limit)
         × (w < 2) }
@@ -62,8 +63,8 @@ fn retire_row(active: &mut [StateSet; PARTS], p: usize, w: usize, left: u64)
 }
 
 impl Search<'_> {
-    // Adds to row p those of the states `into`, of part w, that are alike to p: by some symbol a they lead into a
-    // front, p's successor and any state of which are at r. The next round goes on from them.
+    // Enters r + 1 for p and those of `into`, a word of part w, that are still alike to p. Some symbol leads from them
+    // into a front, whose states are at r from p's successor. The next round goes on from them.
     fn spread_row(&mut self, next: &mut Fresh, p: usize, w: usize, into: u64, r: u16)
         requires { (p < state_limit)
             × (w < 2)

@@ -18,7 +18,8 @@ pub const NEVER: usize = 65535;
 // The same as an entry of the square.
 const NEVER_ENTRY: u16 = NEVER as u16;
 
-// What tells two states apart, by the outputs after the sent and after the received trace.
+// What tells two states apart, by the outputs after the sent and after the received trace. An enum and no closure,
+// since contracts and theorems name both.
 #[derive(Clone, Copy, PartialEq, Eq, Debug)]
 pub enum Test {
     // They differ.

@@ -14,9 +14,10 @@ mod states;
 pub use puts::put_each;
 pub use states::{PartStates, States, part_states};
 
-// Part w of a set has the states from 64 w on, of which there are 64, in one word.
+// A set has two parts, a word each: part w has the 64 states from 64 w on.
 pub const PARTS: usize = 2;
 
+// How many states a part has.
 pub const WORD: usize = 64;
 
 #[derive(Clone, Copy)]

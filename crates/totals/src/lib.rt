@@ -30,7 +30,7 @@ pub struct Approach {
 }
 
 // What the cheapest fault of a set costs at the first states of the layers, the least total that it makes there, and
-// how many states were visited.
+// how many states were visited. An array with a count, since there is no heap.
 #[derive(Clone, Copy)]
 pub struct Costs {
     pub costs: [u16; STATE_LIMIT],

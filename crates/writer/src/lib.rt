@@ -71,7 +71,7 @@ impl Entries<'_> {
         self.judge_bodies()
     }
 
-    // All entries, behind the count.
+    // All entries, behind the count. By index: a zip gives no number to say which entries are put.
     fn put_entries(&self, area: &mut [u8])
         requires { (length self.now.rules.now ≡ length self.now.lengths.now)
             × (length self.now.rules.now ≤ entry_limit)
