@@ -40,7 +40,8 @@ question3 b = record { yes = leb 1 (symbols_of b) && leb (symbols_of b) symbol_l
 
 -- "Is the length exact? 4, place its length."
 abbrev pub question4 : List ℕ → Question
-question4 b = record { yes = eqb (length b) (3 + states_of b + states_of b * symbols_of b); number = 4; place = length b }
+question4 b =
+    record { yes = eqb (length b) (3 + states_of b + states_of b * symbols_of b); number = 4; place = length b }
 
 -- "Is the start below n? 5, place 2."
 abbrev pub question5 : List ℕ → Question
