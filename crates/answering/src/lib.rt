@@ -5,11 +5,11 @@ use asking::asked::{Form, Question, Subject};
 use asking::series::Ungathered;
 use basics::Refusal;
 use input::{TOO_LONG, Unread};
-use printing::{Accepted, ClassesWords, Counts, Numbers, Rules, StepWords, TraceWords};
+use printing::{Accepted, ClassesWords, Counts, Found, Numbers, Rules, StepWords, TraceWords};
 use std::io;
 use std::io::Write;
 use theory::STATE_LIMIT;
-use witness::{WITNESS_ROOM, Witness};
+use witness::WITNESS_ROOM;
 
 // Why a question is not answered: the arguments are no question; standard error has told what failed; the call refuses
 // it; or the answer could not be written.
@@ -60,13 +60,10 @@ fn classify(out: &mut impl Write, body: &[u8], lent: &mut [u8]) -> Result<(), Un
     Ok(())
 }
 
-// Behind the figures of a witness its sent trace, which stands first in the area, and its counts.
-fn sent_and_counts(
-    out: &mut impl Write,
-    witness: Option<Witness>,
-    area: &[u8],
-) -> Result<(), Unanswered> {
-    if let Some(w) = witness {
+// What is found, and behind the figures of a witness its sent trace, which stands first in the area, and its counts.
+fn write_found(out: &mut impl Write, found: Found, area: &[u8]) -> Result<(), Unanswered> {
+    write!(out, "{found}")?;
+    if let Some(w) = found.witness {
         let sent = Numbers(basics::part(area, 0, w.distance));
         write!(out, " sent{sent}{}", Counts(w))?;
     }
@@ -82,8 +79,7 @@ fn examine(
     lent: &mut [u8],
 ) -> Result<(), Unanswered> {
     let witness = immunity::examine(body, set, domain, lent)?;
-    write!(out, "{}", printing::finding(witness))?;
-    sent_and_counts(out, witness, lent)
+    write_found(out, printing::finding(witness), lent)
 }
 
 // The answer on a verdict, and the sent trace of a witness against it.
@@ -96,8 +92,7 @@ fn believe(
     lent: &mut [u8],
 ) -> Result<(), Unanswered> {
     let witness = trust::believe(body, set, domain, verdict, lent)?;
-    write!(out, "{}", printing::belief(witness))?;
-    sent_and_counts(out, witness, lent)
+    write_found(out, printing::belief(witness), lent)
 }
 
 // The block of each state.

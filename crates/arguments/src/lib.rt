@@ -56,17 +56,21 @@ pub fn text_at(rt: &impl Env, i: usize, space: &mut [u8]) -> usize
     rt.arg(i, space).unwrap_or(0)
 }
 
+// The same as a text.
+fn read_at<'s>(rt: &impl Env, i: usize, space: &'s mut [u8]) -> &'s [u8] {
+    let length = text_at(rt, i, space);
+    &space[..length]
+}
+
 // The program's argument i, read into a space that is lent, as a number. One that is missing, or longer than the space,
 // is none.
 pub fn number_at(rt: &impl Env, i: usize, space: &mut [u8]) -> Option<usize> {
-    let length = text_at(rt, i, space);
-    read_decimal(&space[..length])
+    read_decimal(read_at(rt, i, space))
 }
 
 // The same as a number of two bytes.
 fn two_bytes_at(rt: &impl Env, i: usize, space: &mut [u8]) -> Option<u16> {
-    let length = text_at(rt, i, space);
-    read_two_bytes(&space[..length])
+    read_two_bytes(read_at(rt, i, space))
 }
 
 // Fills the list with the arguments from `first` on, each `step` behind the one before, if all are numbers of two
@@ -89,8 +93,7 @@ pub fn fill_two_bytes(
 
 // Whether the program's argument i, read likewise, is this word.
 pub fn is_word(rt: &impl Env, i: usize, word: &[u8], space: &mut [u8]) -> bool {
-    let length = text_at(rt, i, space);
-    &space[..length] == word
+    read_at(rt, i, space) == word
 }
 
 // The program's arguments from `next` on, read one after the other into a space that is lent.
@@ -125,8 +128,7 @@ impl<'r, 's, R: Env> Rest<'r, 's, R> {
             return None;
         }
         self.next += 1;
-        let length = text_at(self.rt, at, self.space);
-        Some(&self.space[..length])
+        Some(read_at(self.rt, at, self.space))
     }
 
     // The next argument, if it is a number.

@@ -67,6 +67,7 @@ pub struct Question {
     pub form: Form,
 }
 
+// What the arguments ask: help, the words of a refusal, a form, or a collection to be written.
 #[derive(Clone, Copy)]
 pub enum Asked {
     Help,

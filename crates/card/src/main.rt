@@ -6,6 +6,7 @@ mod chosen;
 mod page;
 mod words;
 
+use chosen::Call;
 use input::{TOO_LONG, Unread};
 use output::Program;
 use page::Page;
@@ -14,52 +15,45 @@ use std::io;
 use std::io::Write;
 use words::Refused;
 
-// The cards of the rules that are asked for, with an empty line between two.
-fn cards(page: &mut Page, file: &[u8], count: usize, wanted: &mut [u8]) -> io::Result<()> {
-    for i in 0..count {
-        let rule = collection::rule_number(file, i);
-        if chosen::take(wanted, rule) {
-            page.begin(true)?;
-            showing::card(&mut page.out, rule, collection::body(file, i))?;
-        }
-    }
-    Ok(())
-}
-
-// The collection is what is first in the space, so many bytes.
-fn report(
-    rt: &impl Env,
-    mut program: Program,
-    length: usize,
-    wanted: &mut [u8],
-    space: &mut [u8],
-) -> io::Result<()> {
-    match collection::judge(basics::part(space, 0, length)) {
-        Ok(count) => {
-            if count == 0 {
-                writeln!(program.output, "no rules in the collection")?;
+impl<R: Env> Call<'_, '_, R> {
+    // The cards of the rules that are asked for, with an empty line between two. Here and below the collection is what
+    // is first in the space, so many bytes.
+    fn cards(&mut self, page: &mut Page, length: usize, count: usize) -> io::Result<()> {
+        for i in 0..count {
+            let rule = collection::rule_number(basics::part(self.space, 0, length), i);
+            if chosen::take(self.wanted, rule) {
+                page.begin(true)?;
+                let file = basics::part(self.space, 0, length);
+                showing::card(&mut page.out, rule, collection::body(file, i))?;
             }
-            let mut page = Page {
-                out: program.output,
-                gap_due: false,
-            };
-            cards(&mut page, basics::part(space, 0, length), count, wanted)?;
-            chosen::missing_lines(rt, &mut page, wanted, space)
         }
-        Err(refusal) => writeln!(program.output, "{}", Refused(refusal)),
+        Ok(())
     }
-}
 
-fn answer(
-    rt: &impl Env,
-    mut program: Program,
-    wanted: &mut [u8],
-    space: &mut [u8],
-) -> io::Result<()> {
-    match input::read(program, space) {
-        Ok(length) => report(rt, program, length, wanted, space),
-        Err(Unread::Longer) => writeln!(program.output, "{}", Refused(TOO_LONG)),
-        Err(Unread::Failed) => Ok(()),
+    // What is printed of the collection, or why it is refused.
+    fn report(&mut self, length: usize) -> io::Result<()> {
+        match collection::judge(basics::part(self.space, 0, length)) {
+            Ok(count) => {
+                if count == 0 {
+                    writeln!(self.program.output, "no rules in the collection")?;
+                }
+                let mut page = Page {
+                    out: self.program.output,
+                    gap_due: false,
+                };
+                self.cards(&mut page, length, count)?;
+                self.missing_lines(&mut page)
+            }
+            Err(refusal) => writeln!(self.program.output, "{}", Refused(refusal)),
+        }
+    }
+
+    fn answer(&mut self) -> io::Result<()> {
+        match input::read(self.program, self.space) {
+            Ok(length) => self.report(length),
+            Err(Unread::Longer) => writeln!(self.program.output, "{}", Refused(TOO_LONG)),
+            Err(Unread::Failed) => Ok(()),
+        }
     }
 }
 
@@ -71,8 +65,14 @@ fn main(rt: HostRuntime) {
         return;
     }
     let mut wanted = [chosen::wanted_at_first(&rt); chosen::NUMBERS];
-    match chosen::read_arguments(&rt, &mut wanted, &mut space) {
-        Some(()) => program.tell(answer(&rt, program, &mut wanted, &mut space)),
+    let mut call = Call {
+        rt: &rt,
+        program,
+        wanted: &mut wanted,
+        space: &mut space,
+    };
+    match call.read_arguments() {
+        Some(()) => program.tell(call.answer()),
         None => words::usage(program),
     }
 }

@@ -6,6 +6,7 @@ use std::io::{Stdout, Write};
 #[derive(Drop)]
 pub struct Page {
     pub out: Stdout,
+    // A flag: the line is always the same empty one, so no value could stand here or be missing.
     pub gap_due: bool,
 }
 

@@ -5,7 +5,7 @@ use std::io::Write;
 use theory::STATE_LIMIT;
 
 // What a state that is drawn so and has this class is settled as: 1 true, 2 false; 0 where it is drawn true or false,
-// or where neither is settled.
+// or where neither is settled. As bytes, since the states of a verdict are found by the search for those of a class.
 fn verdict(drawn: usize, class: u8) -> u8 {
     match (drawn, class) {
         (0, 0) => 1,

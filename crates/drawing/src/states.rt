@@ -36,7 +36,8 @@ fn run(out: &mut impl Write, first: usize, last: usize) -> io::Result<()>
     }
 }
 
-// The first state of the class from a state on. Where there is none, a number that is no state's.
+// The first state of the class from a state on. Where there is none, a number that is no state's. A class is a byte
+// here and below, so that one search serves verdicts too.
 pub fn next_state(classes: &[u8], class: u8, from: usize) -> usize
     ensures { result ≡ next_state classes.now class from }
 {

@@ -75,14 +75,3 @@ impl Program {
         }
     }
 }
-
-// Writes the words, and as many spaces, at most 16, as bring them to so many columns.
-pub fn padded(out: &mut impl Write, words: &str, columns: usize) -> io::Result<()> {
-    out.write_all(words.as_bytes())?;
-    let used = words.len();
-    if used < columns {
-        let spaces = basics::part(b"                ", 0, columns - used);
-        return out.write_all(spaces);
-    }
-    Ok(())
-}

@@ -149,7 +149,7 @@ impl Display for Counts {
 // Whether there is a witness, in the words for both, and its figures.
 #[derive(Drop)]
 pub struct Found {
-    witness: Option<Witness>,
+    pub witness: Option<Witness>,
     none: &'static str,
     some: &'static str,
 }

@@ -9,6 +9,7 @@ ghost use Rattle.std.specs.Prelude.{◌+◌, ◌≤◌, ◌<◌, length};
 use output::Program;
 use pairs::Workspace;
 use printing::{Accepted, Answer, ClassesWords, Counted, Numbers, StepWords, TraceWords, Written};
+use std::fmt::Display;
 use std::io::{Result, Write};
 use witness::WITNESS_ROOM;
 
@@ -19,25 +20,38 @@ struct Lent {
     witnesses: [u8; WITNESS_ROOM],
 }
 
-// Call 1: the first number is the length of the area, which is full of 255 before the call.
-fn classify(out: &mut impl Write, room: usize, body: &[u8]) -> Result<()> {
-    let mut area = [255u8; 256];
-    if room > 256 {
+// The answer of a call that is lent so many bytes of an area, and those bytes behind it; nothing where the area has
+// fewer.
+fn lend<A: Display + Drop, F: FnOnce(&mut [u8]) -> Answer<A>>(
+    out: &mut impl Write,
+    area: &mut [u8],
+    room: usize,
+    call: F,
+) -> Result<()>
+    requires { F.IsAlwaysCallable call }
+{
+    if room > area.len() {
         return Ok(());
     }
-    let lent = &mut area[0..room];
-    let answer = Answer(classes::classify(body, lent).map(ClassesWords));
+    let lent = &mut area[..room];
+    let answer = call(lent);
     write!(out, "{answer}{}", Numbers(lent))
+}
+
+// Call 1: the first number is the length of the area, which is full of 255 before the call.
+fn classify(out: &mut impl Write, room: usize, body: &[u8]) -> Result<()> {
+    let call = |lent: &mut [u8]| Answer(classes::classify(body, lent).map(ClassesWords));
+    lend(out, &mut [255; 256], room, call)
 }
 
 // Call 3, and every number that names no other call: the numbers are the reading and the length of the trace, which
 // stands before the body.
 fn trace(out: &mut impl Write, domain: usize, length: usize, bytes: &[u8]) -> Result<()> {
-    if length > bytes.len() {
+    let Some((trace, body)) = bytes.split_at_checked(length) else {
         return Ok(());
-    }
-    let answer = readings::trace(&bytes[length..], domain, &bytes[..length]);
-    write!(out, "{}", Answer(answer.map(TraceWords)))
+    };
+    let answer = Answer(readings::trace(body, domain, trace).map(TraceWords));
+    write!(out, "{answer}")
 }
 
 // Call 4: the numbers are the fault set, the reading and the length of the area, which is full of 255 before the call.
@@ -49,14 +63,10 @@ fn examine(
     room: usize,
     body: &[u8],
 ) -> Result<()> {
-    let mut area = [255u8; 256];
-    if room > 256 {
-        return Ok(());
-    }
-    let lent = &mut area[0..room];
-    let answer = immunity::examine_in(workspace, body, set, domain, lent);
-    let finding = Answer(answer.map(|witness| Counted(printing::finding(witness))));
-    write!(out, "{finding}{}", Numbers(lent))
+    lend(out, &mut [255; 256], room, |lent| {
+        let answer = immunity::examine_in(workspace, body, set, domain, lent);
+        Answer(answer.map(|witness| Counted(printing::finding(witness))))
+    })
 }
 
 // Call 5: the card, as the listing's line of rule 0 has it between the rule number and the line feed.
@@ -75,9 +85,11 @@ fn card(out: &mut impl Write, lent: &mut Lent, body: &[u8]) -> Result<()> {
     }
 }
 
-// A number of two bytes, least byte first.
+// The number of the first two bytes, least byte first; a byte that is missing counts as 0.
 fn two_bytes(bytes: &[u8]) -> u16 {
-    (basics::byte_at(bytes, 0) + 256 * basics::byte_at(bytes, 1)) as u16
+    let mut number = [0; 2];
+    basics::copy(basics::part(bytes, 0, 2), &mut number);
+    u16::from_le_bytes(number)
 }
 
 fn read_list(list: &mut [u16], bytes: &[u8])
@@ -98,20 +110,18 @@ fn write(
     bytes: &[u8],
 ) -> Result<()>
     requires { (rules < 256)
-        × (lengths < 256)
-        × (room < 256) }
+        × (lengths < 256) }
 {
     let mut rule_list = [0u16; 256];
     let mut length_list = [0u16; 256];
-    let mut area = [255u8; 256];
     let given_rules = &mut rule_list[0..rules];
     let given_lengths = &mut length_list[0..lengths];
-    let lent = &mut area[0..room];
     read_list(given_rules, bytes);
     read_list(given_lengths, basics::part(bytes, 2 * rules, 2 * lengths));
     let bodies = basics::part(bytes, 2 * rules + 2 * lengths, bytes.len());
-    let answer = Answer(writer::write(given_rules, given_lengths, bodies, lent).map(Written));
-    write!(out, "{answer}{}", Numbers(lent))
+    lend(out, &mut [255; 256], room, |lent| {
+        Answer(writer::write(given_rules, given_lengths, bodies, lent).map(Written))
+    })
 }
 
 // Call 7: the numbers are the fault set, the reading and the verdict. The length of the area, which is full of 255
@@ -124,16 +134,12 @@ fn believe(
     verdict: usize,
     bytes: &[u8],
 ) -> Result<()> {
-    let mut area = [255u8; 1024];
     let room = two_bytes(bytes) as usize;
-    if room > 1024 {
-        return Ok(());
-    }
-    let lent = &mut area[0..room];
     let body = basics::part(bytes, 2, bytes.len());
-    let answer = trust::believe_in(workspace, body, set, domain, verdict, lent);
-    let belief = Answer(answer.map(|witness| Counted(printing::belief(witness))));
-    write!(out, "{belief}{}", Numbers(lent))
+    lend(out, &mut [255; 1024], room, |lent| {
+        let answer = trust::believe_in(workspace, body, set, domain, verdict, lent);
+        Answer(answer.map(|witness| Counted(printing::belief(witness))))
+    })
 }
 
 // Call 8: the numbers are the fault set, the reading and the length of the proof, which stands before the body.
@@ -144,22 +150,17 @@ fn proof(
     length: usize,
     bytes: &[u8],
 ) -> Result<()> {
-    if length > bytes.len() {
+    let Some((proof, body)) = bytes.split_at_checked(length) else {
         return Ok(());
-    }
-    let answer = certificate::check(&bytes[length..], set, domain, &bytes[..length]);
-    write!(out, "{}", Answer(answer.map(|()| Accepted)))
+    };
+    let answer = Answer(certificate::check(body, set, domain, proof).map(|()| Accepted));
+    write!(out, "{answer}")
 }
 
 // Call 9: the numbers are the reading and the length of the area, which is full of 255 before the call.
 fn list_blocks(out: &mut impl Write, domain: usize, room: usize, body: &[u8]) -> Result<()> {
-    let mut area = [255u8; 256];
-    if room > 256 {
-        return Ok(());
-    }
-    let lent = &mut area[0..room];
-    let answer = Answer(blocks::write(body, domain, lent).map(Written));
-    write!(out, "{answer}{}", Numbers(lent))
+    let call = |lent: &mut [u8]| Answer(blocks::write(body, domain, lent).map(Written));
+    lend(out, &mut [255; 256], room, call)
 }
 
 // The answer to a frame that has its numbers.
@@ -186,19 +187,13 @@ fn answer(out: &mut impl Write, lent: &mut Lent, frame: &[u8], bytes: &[u8]) -> 
     writeln!(out)
 }
 
-fn wide(byte: u8) -> usize
-    ensures { result < 256 }
-{
-    byte as usize
-}
-
 // Where the frame at a place ends, or the end of the input if that comes first.
 fn frame_end(input: &[u8], at: usize) -> usize
     requires { at + 2 ≤ length input.now }
     ensures { (at + 2 ≤ result)
         × (result ≤ length input.now) }
 {
-    let size = wide(input[at]) + 256 * wide(input[at + 1]);
+    let size = two_bytes(&input[at..]) as usize;
     let left = input.len() - (at + 2);
     if size <= left {
         return at + 2 + size;

@@ -20,15 +20,14 @@ fn finding(
     by: Reading,
     area: &mut [u8],
 ) -> io::Result<()> {
-    let answer = immunity::examine(body, set, by as usize, area);
-    if let Err(refusal) = answer {
-        return writeln!(out, "{}", Refused(refusal));
+    match immunity::examine(body, set, by as usize, area) {
+        Err(refusal) => writeln!(out, "{}", Refused(refusal)),
+        Ok(None) => writeln!(out, "immune"),
+        Ok(Some(witness)) => {
+            let sent = basics::part(area, 0, witness.distance);
+            drawing::traces::draw(out, sent, witness, by)
+        }
     }
-    let Ok(Some(witness)) = answer else {
-        return writeln!(out, "immune");
-    };
-    let sent = basics::part(area, 0, witness.distance);
-    drawing::traces::draw(out, sent, witness, by)
 }
 
 // The line that says which marks can be believed when they are received under one fault.
@@ -55,8 +54,7 @@ fn believe_line(out: &mut impl Write, body: &[u8], set: usize, area: &mut [u8]) 
 fn fault(out: &mut impl Write, body: &[u8], kind: Kind, by: Reading) -> io::Result<()> {
     let mut area = [0u8; WITNESS_ROOM];
     let set = FaultSet::empty().with(kind).number();
-    write!(out, "  ")?;
-    output::padded(out, words::fault_name(kind), 16)?;
+    write!(out, "  {:<16}", words::fault_name(kind))?;
     finding(out, body, set, by, &mut area)?;
     if by == Reading::Marks {
         believe_line(out, body, set, &mut area)?;
