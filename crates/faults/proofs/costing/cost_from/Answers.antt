@@ -13,7 +13,8 @@ use Rattle.faults.proofs.costing.cost_from.Goals as goal
 pub cost_of-requires-clause-ranged : goal.cost_of-requires-clause-ranged
 cost_of-requires-clause-ranged c =
     let rank = rank_of c.args.kind in
-    let l : c.loop-second.second < seconds rank c.args.distances.now.graph.now.symbols = omega (arith, c.loop-second-test.true, c.seconds_of-second-end.ensures) in
+    let k = c.args.distances.now.graph.now.symbols in
+    let l : c.loop-second.second < seconds rank k = omega (arith, c.loop-second-test.true, c.seconds_of-second-end.ensures) in
     c.fault_of-fault.ensures.ranged _ c.requires.first_lt_k (second_in rank c.requires.first_lt_k l)
 
 pub loop-second-preserved : goal.loop-second-preserved
