@@ -2,53 +2,42 @@
 ghost use Rattle.std.specs.Prelude.{◌≡◌, ◌+◌, ◌≤◌, ◌<◌};
 ghost use Rattle.theory.specs.Faults.{seconds};
 ghost use Rattle.monitor.specs.Graph.{automaton};
-ghost use Rattle.square.specs.Square.{never, HasRows};
+ghost use Rattle.square.specs.Square.{never};
 ghost use Rattle.faults.specs.Kinds.{rank_of};
 ghost use Rattle.faults.specs.Steps.{step_for, Ranged, cost_of, Cheapest};
 ghost use Rattle.faults.specs.Looks.{Upto, OfFirst, OfKind, OfHeld, firsts, second_from, Suited};
 
 use crate::{Fault, FaultSet, Kind};
-use monitor::Graph;
-use square::{NEVER, Test};
+use square::{Distances, NEVER, Test};
 
-// The distances of the states of a table, and its next states.
-#[derive(Clone, Copy)]
-pub struct Distances<'a> {
-    pub square: &'a [u16],
-    pub graph: &'a Graph<'a>,
-    pub ghost has_rows: { HasRows graph.now.states square.now },
+// The cost of a fault at p: no more than NEVER.
+pub fn cost_of(distances: &Distances, p: usize, fault: Fault) -> usize
+    requires p_lt_n { p < distances.now.graph.now.states }
+    requires ranged { Ranged distances.now.graph.now.symbols fault }
+    ensures { result ≡ cost_of (automaton distances.now.graph.now) distances.now.square.now p (step_for fault) }
+{
+    let x = crate::after(distances.graph, p, fault.sent);
+    let y = crate::after(distances.graph, p, fault.received);
+    basics::least_of(
+        fault.sent.count + square::entry_at(distances.square, x, y),
+        NEVER,
+    )
 }
 
-impl Distances<'_> {
-    // The cost of a fault at p: no more than NEVER.
-    pub fn cost_of(&self, p: usize, fault: Fault) -> usize
-        requires p_lt_n { p < self.now.graph.now.states }
-        requires ranged { Ranged self.now.graph.now.symbols fault }
-        ensures { result ≡ cost_of (automaton self.now.graph.now) self.now.square.now p (step_for fault) }
-    {
-        let x = crate::after(self.graph, p, fault.sent);
-        let y = crate::after(self.graph, p, fault.received);
-        basics::least_of(
-            fault.sent.count + square::entry_at(self.square, x, y),
-            NEVER,
-        )
+// What the cheapest fault of a kind at p with the given first symbol costs, of the second symbols from `from` on.
+fn cost_from(distances: &Distances, p: usize, kind: Kind, first: usize, from: usize) -> usize
+    requires p_lt_n { p < distances.now.graph.now.states }
+    requires first_lt_k { first < distances.now.graph.now.symbols }
+    requires from_bound { from ≤ seconds (rank_of kind) distances.now.graph.now.symbols }
+    ensures { Cheapest (automaton distances.now.graph.now) distances.now.square.now p
+        (OfFirst (rank_of kind) distances.now.graph.now.symbols first from) never result }
+{
+    let mut least = NEVER;
+    for second in from..crate::seconds_of(kind, distances.graph.symbols) {
+        let fault = crate::fault_of(kind, first, second);
+        least = basics::least_of(cost_of(distances, p, fault), least);
     }
-
-    // What the cheapest fault of a kind at p with the given first symbol costs, of the second symbols from `from` on.
-    fn cost_from(&self, p: usize, kind: Kind, first: usize, from: usize) -> usize
-        requires p_lt_n { p < self.now.graph.now.states }
-        requires first_lt_k { first < self.now.graph.now.symbols }
-        requires from_bound { from ≤ seconds (rank_of kind) self.now.graph.now.symbols }
-        ensures { Cheapest (automaton self.now.graph.now) self.now.square.now p
-            (OfFirst (rank_of kind) self.now.graph.now.symbols first from) never result }
-    {
-        let mut least = NEVER;
-        for second in from..crate::seconds_of(kind, self.graph.symbols) {
-            let fault = crate::fault_of(kind, first, second);
-            least = basics::least_of(self.cost_of(p, fault), least);
-        }
-        least
-    }
+    least
 }
 
 // The distances, the faults that are asked about, and what tells two states apart in these distances.
@@ -70,7 +59,7 @@ impl Costing<'_> {
         let mut least = NEVER;
         for first in 0..firsts_of(self.test, kind, self.distances.graph.symbols) {
             let from = second_from(self.test, kind, first);
-            least = basics::least_of(self.distances.cost_from(p, kind, first, from), least);
+            least = basics::least_of(cost_from(&self.distances, p, kind, first, from), least);
         }
         least
     }

@@ -10,18 +10,17 @@ ghost use Rattle.theory.specs.Automaton.{run};
 ghost use Rattle.theory.specs.Monitor.{symbol_limit};
 ghost use Rattle.theory.specs.Faults.{kinds, step_of, seconds, holds, steps};
 ghost use Rattle.monitor.specs.Graph.{automaton};
-ghost use Rattle.square.specs.Square.{HasRows};
 ghost use Rattle.faults.specs.Kinds.{rank_of, bit_of, set_of};
 ghost use Rattle.faults.specs.Steps.{trace_of, step_for, Inside, Ranged, costing, Attained, Cheapest};
 ghost use Rattle.faults.specs.Looks.{OfSet, Suited};
 
 use monitor::Graph;
-use square::{NEVER, Test};
+use square::{Distances, NEVER, Test};
 
 mod costing;
 mod steps;
 
-use costing::{Costing, Distances};
+use costing::Costing;
 pub use steps::Steps;
 
 // How many kinds of fault there are.
@@ -256,20 +255,19 @@ pub fn write_symbols(symbols: Symbols, area: &mut [u8], at: usize)
 // NEVER. Each call names its kind, so that the compiler makes the loops of each kind by themselves: with a loop over
 // the kinds the costs of a set took 1.1 times the instructions with 16 symbols and 1.6 times with 2.
 pub fn cost_within(
-    square: &[u16],
-    graph: &Graph,
+    distances: &Distances,
     set: FaultSet,
     test: Test,
     p: usize,
     bound: usize,
 ) -> usize
-    requires p_lt_n { p < graph.now.states }
-    requires has_rows { HasRows graph.now.states square.now }
-    requires suited { Suited test graph.now.states square.now }
-    ensures { Cheapest (automaton graph.now) square.now p (OfSet set.bits graph.now.symbols) bound result }
+    requires p_lt_n { p < distances.now.graph.now.states }
+    requires suited { Suited test distances.now.graph.now.states distances.now.square.now }
+    ensures { Cheapest (automaton distances.now.graph.now) distances.now.square.now p
+        (OfSet set.bits distances.now.graph.now.symbols) bound result }
 {
     let costing = Costing {
-        distances: Distances { square, graph },
+        distances: *distances,
         set,
         test,
     };
@@ -280,17 +278,16 @@ pub fn cost_within(
 }
 
 // The first fault of the set, in the written order, that costs this at p.
-pub fn fault_with(square: &[u16], graph: &Graph, set: FaultSet, p: usize, cost: usize) -> Fault
-    requires p_lt_n { p < graph.now.states }
-    requires attained { Attained (automaton graph.now) square.now p (OfSet set.bits graph.now.symbols) cost }
-    requires has_rows { HasRows graph.now.states square.now }
-    ensures first { find (costing (automaton graph.now) square.now p cost) (steps set.bits graph.now.symbols)
-        ≡ some (step_for result) }
-    ensures ranged { Ranged graph.now.symbols result }
+pub fn fault_with(distances: &Distances, set: FaultSet, p: usize, cost: usize) -> Fault
+    requires p_lt_n { p < distances.now.graph.now.states }
+    requires attained { Attained (automaton distances.now.graph.now) distances.now.square.now p
+        (OfSet set.bits distances.now.graph.now.symbols) cost }
+    ensures first { find (costing (automaton distances.now.graph.now) distances.now.square.now p cost)
+        (steps set.bits distances.now.graph.now.symbols) ≡ some (step_for result) }
+    ensures ranged { Ranged distances.now.graph.now.symbols result }
 {
-    let distances = Distances { square, graph };
-    for fault in set.steps(graph.symbols) {
-        if distances.cost_of(p, fault) == cost {
+    for fault in set.steps(distances.graph.symbols) {
+        if costing::cost_of(distances, p, fault) == cost {
             return fault;
         }
     }

@@ -71,54 +71,56 @@ pub struct Pair {
     pub received: usize,
 }
 
-// The lowest symbol that leads from p and q to a pair at `distance`, or the number of symbols.
-fn nearer_by(square: &[u16], graph: &Graph, distance: usize, p: usize, q: usize) -> usize
-    requires { HasRows graph.now.states square.now
-        × (p < graph.now.states)
-        × (q < graph.now.states) }
-    ensures { result ≡ nearer (automaton graph.now) square.now distance p q }
-{
-    basics::first_in(0, graph.symbols, |a| {
-        entry_at(square, graph.successor(p, a), graph.successor(q, a)) == distance
-    })
+// The distances of the states of a table, and its next states.
+#[derive(Clone, Copy)]
+pub struct Distances<'a> {
+    pub square: &'a [u16],
+    pub graph: &'a Graph<'a>,
+    pub ghost has_rows: { HasRows graph.now.states square.now },
 }
 
-// Writes the first of the shortest traces that tell p and q apart into the area, from `at` on, and returns the two
-// states it leads to.
-pub fn write_apart(
-    square: &[u16],
-    graph: &Graph,
-    p: usize,
-    q: usize,
-    area: &mut [u8],
-    at: usize,
-) -> Pair
-    requires { HasRows graph.now.states square.now
-        × Falling (automaton graph.now) square.now
-        × (p < graph.now.states)
-        × (q < graph.now.states)
-        × (entry square.now p q < never)
-        × (at + entry square.now p q ≤ length area.old) }
-    ensures area { area.new
-        ≡ sets area.old at (apart (automaton graph.now) square.now p q) }
-    ensures sent { (result.sent
-        ≡ run (automaton graph.now) p (apart (automaton graph.now) square.now p q))
-        × (result.sent < graph.now.states) }
-    ensures received { (result.received
-        ≡ run (automaton graph.now) q (apart (automaton graph.now) square.now p q))
-        × (result.received < graph.now.states) }
-{
-    let distance = entry_at(square, p, q);
-    let mut x = p;
-    let mut y = q;
-    for i in 0..distance {
-        let a = nearer_by(square, graph, distance - (i + 1), x, y);
-        area[at + i] = a as u8;
-        x = graph.successor(x, a);
-        y = graph.successor(y, a);
+impl Distances<'_> {
+    // The lowest symbol that leads from p and q to a pair at `distance`, or the number of symbols.
+    fn nearer_by(&self, distance: usize, p: usize, q: usize) -> usize
+        requires { (p < self.now.graph.now.states)
+            × (q < self.now.graph.now.states) }
+        ensures { result ≡ nearer (automaton self.now.graph.now) self.now.square.now distance p q }
+    {
+        let Distances { square, graph, .. } = *self;
+        basics::first_in(0, graph.symbols, |a| {
+            entry_at(square, graph.successor(p, a), graph.successor(q, a)) == distance
+        })
     }
-    Pair {
-        sent: x,
-        received: y,
+
+    // Writes the first of the shortest traces that tell p and q apart into the area, from `at` on, and returns the two
+    // states it leads to.
+    pub fn write_apart(&self, p: usize, q: usize, area: &mut [u8], at: usize) -> Pair
+        requires { Falling (automaton self.now.graph.now) self.now.square.now
+            × (p < self.now.graph.now.states)
+            × (q < self.now.graph.now.states)
+            × (entry self.now.square.now p q < never)
+            × (at + entry self.now.square.now p q ≤ length area.old) }
+        ensures area { area.new
+            ≡ sets area.old at (apart (automaton self.now.graph.now) self.now.square.now p q) }
+        ensures sent { (result.sent
+            ≡ run (automaton self.now.graph.now) p (apart (automaton self.now.graph.now) self.now.square.now p q))
+            × (result.sent < self.now.graph.now.states) }
+        ensures received { (result.received
+            ≡ run (automaton self.now.graph.now) q (apart (automaton self.now.graph.now) self.now.square.now p q))
+            × (result.received < self.now.graph.now.states) }
+    {
+        let distance = entry_at(self.square, p, q);
+        let mut x = p;
+        let mut y = q;
+        for i in 0..distance {
+            let a = self.nearer_by(distance - (i + 1), x, y);
+            area[at + i] = a as u8;
+            x = self.graph.successor(x, a);
+            y = self.graph.successor(y, a);
+        }
+        Pair {
+            sent: x,
+            received: y,
+        }
     }
 }

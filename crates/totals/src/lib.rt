@@ -7,7 +7,7 @@ ghost use Rattle.std.proofs.lemmas.List.Edits.{sets};
 ghost use Rattle.theory.specs.Automaton.{run};
 ghost use Rattle.theory.specs.Monitor.{state_limit};
 ghost use Rattle.monitor.specs.Graph.{automaton};
-ghost use Rattle.square.specs.Square.{never, HasRows};
+ghost use Rattle.square.specs.Square.{never};
 ghost use Rattle.faults.specs.Looks.{OfSet, Suited};
 ghost use Rattle.layers.specs.Layers.{Queue};
 ghost use Rattle.totals.specs.Totals.{Unused, Shallow, Costed, Enough};
@@ -16,7 +16,7 @@ ghost use Rattle.totals.specs.Totals.{onward, way_to_fault, LeadsOn, Leading, On
 use faults::FaultSet;
 use layers::Layers;
 use monitor::Graph;
-use square::{NEVER, Test};
+use square::{Distances, NEVER, Test};
 use theory::STATE_LIMIT;
 
 // NEVER, as the arrays hold it.
@@ -47,11 +47,12 @@ fn unused() -> [u16; STATE_LIMIT]
 
 impl Costs {
     // The costs at the states of the layers, as long as these are not too deep for a total as low as the least so far.
-    pub fn of(square: &[u16], graph: &Graph, layers: &Layers, set: FaultSet, test: Test) -> Costs
-        requires { Queue state_limit graph.now.states layers.now.count layers.now.order layers.now.depths
-            × HasRows graph.now.states square.now
-            × Suited test graph.now.states square.now }
-        ensures costed { Costed state_limit (automaton graph.now) square.now (OfSet set.bits graph.now.symbols)
+    pub fn of(distances: &Distances, layers: &Layers, set: FaultSet, test: Test) -> Costs
+        requires { Queue state_limit distances.now.graph.now.states
+            layers.now.count layers.now.order layers.now.depths
+            × Suited test distances.now.graph.now.states distances.now.square.now }
+        ensures costed { Costed state_limit (automaton distances.now.graph.now) distances.now.square.now
+            (OfSet set.bits distances.now.graph.now.symbols)
             layers.now.order layers.now.depths result.visited result.costs result.total }
         ensures enough { Enough layers.now.order layers.now.depths layers.now.count result.visited result.total }
     {
@@ -67,7 +68,7 @@ impl Costs {
                     visited,
                 };
             }
-            let cost = faults::cost_within(square, graph, set, test, p, total - depth);
+            let cost = faults::cost_within(distances, set, test, p, total - depth);
             costs[p] = cost as u16;
             total = basics::least_of(depth + cost, total);
         }

@@ -13,7 +13,7 @@ use faults::{Fault, FaultSet};
 use layers::Layers;
 use monitor::Table;
 use pairs::Workspace;
-use square::{NEVER, Pair, Test};
+use square::{Distances, NEVER, Pair, Test};
 use totals::Costs;
 
 // What all fault sets of a table and a test share: what each state reads, the square of the distances by these, and the
@@ -73,11 +73,15 @@ impl<'a> Search<'a> {
         ensures area { SentInto (first_of self.now set.bits) area.old area.new }
     {
         let graph = &self.table.graph;
+        let distances = Distances {
+            square: self.square,
+            graph,
+        };
         let totals = totals::enter_totals(costs, &self.layers, graph);
         let approach = totals::write_before(&totals, costs, graph, self.table.start, area);
         let state = approach.state;
         let cost = costs.costs[state] as usize;
-        let fault = faults::fault_with(self.square, graph, set, state, cost);
+        let fault = faults::fault_with(&distances, set, state, cost);
         faults::write_symbols(fault.sent, area, approach.count);
         let p = faults::after(graph, state, fault.sent);
         let q = faults::after(graph, state, fault.received);
@@ -85,7 +89,7 @@ impl<'a> Search<'a> {
         Harm {
             before: approach.count,
             fault,
-            ends: square::write_apart(self.square, graph, p, q, area, at),
+            ends: distances.write_apart(p, q, area, at),
         }
     }
 
@@ -118,7 +122,11 @@ impl<'a> Search<'a> {
         ensures figures { outcome result ≡ answer_of self.now set.bits (length area.old) }
         ensures area { area.new ≡ written (outcome result) (witness_trace (first_of self.now set.bits)) area.old }
     {
-        let costs = Costs::of(self.square, &self.table.graph, &self.layers, set, self.test);
+        let distances = Distances {
+            square: self.square,
+            graph: &self.table.graph,
+        };
+        let costs = Costs::of(&distances, &self.layers, set, self.test);
         if costs.total == NEVER {
             return Ok(None);
         }

@@ -7,5 +7,5 @@ use Rattle.faults.proofs.fault_with.Given as goal
 
 abbrev pub invariant-loop-fault : goal.invariant-loop-fault
 invariant-loop-fault l =
-    (l.fault-iterator.symbols ≡ l.fn.graph.symbols)
-    × Seeking (automaton l.fn.graph) l.fn.square l.p l.cost l.fn.set.bits (rest l.fault-iterator)
+    (l.fault-iterator.symbols ≡ l.fn.distances.graph.now.symbols)
+    × Seeking (automaton l.fn.distances.graph.now) l.fn.distances.square.now l.p l.cost l.fn.set.bits (rest l.fault-iterator)

@@ -7,11 +7,12 @@ use Rattle.totals.proofs.Costs.of.Goals as goal
 
 pub bounds-layers-visited : goal.bounds-layers-visited
 bounds-layers-visited c =
-    let few = c.args.graph.now.rows.states_most in
+    let few = c.args.distances.now.graph.now.rows.states_most in
     omega (arith, queue_few few c.requires.0, few, c.loop-visited-test.true)
 
 pub loop-visited-preserved : goal.loop-visited-preserved
 loop-visited-preserved c =
-    let a = c.args in
-    costed_goes_on (automaton a.graph.now) a.square.now a.set.bits a.graph.now.rows.states_most c.requires.0 c.loop-visited-test.true
+    let distances = c.args.distances.now in
+    let graph = distances.graph.now in
+    costed_goes_on (automaton graph) distances.square.now c.args.set.bits graph.rows.states_most c.requires.0 c.loop-visited-test.true
     c.from-p.ensures c.from-depth.ensures c.loop-visited.invariant (omega (arith, c.if-total-depth.false)) c.cost_within-cost.ensures c.least_of-total.ensures

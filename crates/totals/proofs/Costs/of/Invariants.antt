@@ -7,4 +7,6 @@ use Rattle.totals.proofs.Costs.of.Given as goal
 
 abbrev pub invariant-loop-visited : goal.invariant-loop-visited
 invariant-loop-visited l =
-    Costed state_limit (automaton l.graph) l.square (OfSet l.set.bits l.graph.symbols) l.layers.order l.layers.depths l.visited l.costs l.total
+    let graph = l.distances.graph.now in
+    Costed state_limit (automaton graph) l.distances.square.now (OfSet l.set.bits graph.symbols)
+    l.layers.order l.layers.depths l.visited l.costs l.total

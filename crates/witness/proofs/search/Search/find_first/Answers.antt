@@ -19,7 +19,7 @@ seen c =
 pub of-costs-requires : goal.of-costs-requires
 of-costs-requires c =
     let p = c.requires in
-    (p.explored.queue, p.squared.size, p.suited)
+    (p.explored.queue, p.suited)
 
 pub returns-then-costs-eq-NEVER : goal.returns-then-costs-eq-NEVER
 returns-then-costs-eq-NEVER c =

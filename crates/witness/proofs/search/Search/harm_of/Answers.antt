@@ -66,7 +66,6 @@ write_apart-requires c =
     let squared = c.requires.posed.squared in
     let p = c.after-p.ensures in
     let q = c.after-q.ensures in (
-      squared.size,
       squared_falls s.table.now.sound.well_formed.closed squared,
       p.inside,
       q.inside,

@@ -2,11 +2,11 @@
 use native.Mathlib.Omega.{arith}
 use Rattle.monitor.proofs.Rows.{next_of_rows}
 use Rattle.square.proofs.Walk.{walk_ends, walk_goes_on}
-use Rattle.square.proofs.write_apart.Goals as goal
+use Rattle.square.proofs.Distances.write_apart.Goals as goal
 
 pub loop-i-preserved : goal.loop-i-preserved
 loop-i-preserved c =
-    walk_goes_on c.loop-i.invariant c.requires.1 (omega arith) (next_of_rows c.args.graph.now.rows)
+    walk_goes_on c.loop-i.invariant c.requires.0 (omega arith) (next_of_rows c.args.self.now.graph.now.rows)
     c.nearer_by-a.ensures c.successor-x.ensures.next c.successor-y.ensures.next
 
 pub returns : goal.returns

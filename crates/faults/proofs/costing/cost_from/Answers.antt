@@ -8,18 +8,19 @@ use Rattle.faults.specs.Kinds.{rank_of}
 use Rattle.faults.specs.Steps.{cost_of}
 use Rattle.faults.proofs.ByKind.{second_in}
 use Rattle.faults.proofs.Cheapest.{cheapest_one, upto_goes_on}
-use Rattle.faults.proofs.costing.Distances.cost_from.Goals as goal
+use Rattle.faults.proofs.costing.cost_from.Goals as goal
 
 pub cost_of-requires-clause-ranged : goal.cost_of-requires-clause-ranged
 cost_of-requires-clause-ranged c =
     let rank = rank_of c.args.kind in
-    let l : c.loop-second.second < seconds rank c.args.self.now.graph.now.symbols = omega (arith, c.loop-second-test.true, c.seconds_of-second-end.ensures) in
+    let k = c.args.distances.now.graph.now.symbols in
+    let l : c.loop-second.second < seconds rank k = omega (arith, c.loop-second-test.true, c.seconds_of-second-end.ensures) in
     c.fault_of-fault.ensures.ranged _ c.requires.first_lt_k (second_in rank c.requires.first_lt_k l)
 
 pub loop-second-preserved : goal.loop-second-preserved
 loop-second-preserved c =
-    let self = c.args.self.now in
+    let distances = c.args.distances.now in
     let at = c.loop-second in
-    let e = c.cost_of.ensures ∙ ap (cost_of (automaton self.graph.now) self.square.now c.args.p) c.fault_of-fault.ensures.step in
+    let e = c.cost_of.ensures ∙ ap (cost_of (automaton distances.graph.now) distances.square.now c.args.p) c.fault_of-fault.ensures.step in
     upto_goes_on at.invariant
     (cheapest_one (step_of (rank_of c.args.kind) c.args.first at.second) (at.auto.second, refl) (λ s h. h.1) e) c.least_of-least.ensures
