@@ -27,10 +27,11 @@ struct Call<'r, 's, R> {
 impl<R: Env + Files> Call<'_, '_, R> {
     // The answer line to a question.
     fn answer(&mut self, question: Question, series: &[u8]) -> Result<(), Unanswered> {
-        let length = input::read(self.program, self.space)?;
+        let mut program = self.program;
+        let length = input::read(program, self.space)?;
         let input = basics::part(self.space, 0, length);
-        answering::answer(&mut self.program.output, question, input, series)?;
-        writeln!(self.program.output)?;
+        answering::answer(&mut program.output, question, input, series)?;
+        writeln!(program.output)?;
         Ok(())
     }
 
