@@ -75,3 +75,15 @@ impl Program {
         }
     }
 }
+
+// Writes the words, and as many spaces, at most 16, as bring them to so many columns. By hand, since an edit turns the
+// test: a width in a format leaves nothing to turn.
+pub fn padded(out: &mut impl Write, words: &str, columns: usize) -> io::Result<()> {
+    out.write_all(words.as_bytes())?;
+    let used = words.len();
+    if used < columns {
+        let spaces = basics::part(b"                ", 0, columns - used);
+        return out.write_all(spaces);
+    }
+    Ok(())
+}

@@ -54,7 +54,8 @@ fn believe_line(out: &mut impl Write, body: &[u8], set: usize, area: &mut [u8]) 
 fn fault(out: &mut impl Write, body: &[u8], kind: Kind, by: Reading) -> io::Result<()> {
     let mut area = [0u8; WITNESS_ROOM];
     let set = FaultSet::empty().with(kind).number();
-    write!(out, "  {:<16}", words::fault_name(kind))?;
+    write!(out, "  ")?;
+    output::padded(out, words::fault_name(kind), 16)?;
     finding(out, body, set, by, &mut area)?;
     if by == Reading::Marks {
         believe_line(out, body, set, &mut area)?;
