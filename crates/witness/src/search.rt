@@ -73,14 +73,14 @@ impl<'a> Search<'a> {
         ensures area { SentInto (first_of self.now set.bits) area.old area.new }
     {
         let graph = &self.table.graph;
-        let distances = Distances {
-            square: self.square,
-            graph,
-        };
         let totals = totals::enter_totals(costs, &self.layers, graph);
         let approach = totals::write_before(&totals, costs, graph, self.table.start, area);
         let state = approach.state;
         let cost = costs.costs[state] as usize;
+        let distances = Distances {
+            square: self.square,
+            graph,
+        };
         let fault = faults::fault_with(&distances, set, state, cost);
         faults::write_symbols(fault.sent, area, approach.count);
         let p = faults::after(graph, state, fault.sent);
