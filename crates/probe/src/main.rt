@@ -22,7 +22,7 @@ struct Lent {
 
 // The answer of a call that is lent so many bytes of an area, and those bytes behind it; nothing where the area has
 // fewer.
-fn lend<A: Display + Drop, F: FnOnce(&mut [u8]) -> Answer<A>>(
+fn lend<F: FnOnce(&mut [u8]) -> Answer<A>, A: Display + Drop>(
     out: &mut impl Write,
     area: &mut [u8],
     room: usize,
