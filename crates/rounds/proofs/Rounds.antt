@@ -2,7 +2,7 @@
 use mathlib.Core.Path.{◌≡◌, refl, sym, ◌∙◌}
 use mathlib.Core.Bool.{Bool, true, false, not, ◌&&◌, ◌||◌, and-true}
 use mathlib.Core.List.{List}
-use mathlib.Core.Logic.{inl, inr, ⊎_elim}
+use mathlib.Core.Logic.{◌⊎◌, inl, inr, ⊎_elim}
 use Prim.Native.Nat.{ℕ, suc, ◌+◌, ◌*◌, ◌/◌, ◌≤◌, ◌<◌, zero-le}
 use native.Mathlib.Omega.{arith}
 use lib.Dec.{eqb, ltb}
@@ -99,37 +99,36 @@ module _ {g : Automaton} (x v w : ℕ) {r : ℕ} {front : ℕ → Bool} {sets : 
 
 -- ---- all parts
 
--- what is done in the parts below v, by the state whose part counts
-abbrev pub done_below : (ℕ → ℕ → ℕ) → (ℕ → ℕ → ℕ → Bool) → ℕ → ℕ → ℕ → ℕ → Bool
-done_below state all v p q b = ltb (state p q / 64) v && all p q b
+-- a state of n is in part 0 where n is at most 64, and else in one of the two
+in_part_lem : (n p : ℕ) → p < n → n ≤ 64 → is_part 0 p ≡ true
+in_part_lem n p l m = eq-eqb (p / 64) 0 (omega (arith, l, m))
 
--- part by part, all is done
+in_parts : (n p : ℕ) → p < n → n ≤ state_limit → (is_part 0 p ≡ true) ⊎ (is_part 1 p ≡ true)
+in_parts n p l m =
+    ⊎_elim
+    (λ (k : p < 64). inl (eq-eqb (p / 64) 0 (omega (arith, k))))
+    (λ (k : 64 ≤ p). inr (eq-eqb (p / 64) 1 (omega (arith, k, l, m))))
+    (lt_or_le p 64)
+
+-- where each part of the states is done, by what a test says of it, all are done
 module _ {g : Automaton} {r x : ℕ} {front : ℕ → Bool} {sets : List StateSet} {square₀ : List ℕ} {alike₀ next₀ active₀ : List StateSet} {rows₀ : ℕ → Bool}
-    (each : ℕ → ℕ → ℕ → ℕ → Bool) (all : ℕ → ℕ → ℕ → Bool) (state : ℕ → ℕ → ℕ) where
-  pub parts_begin : GoesAt g r x front (done_below state all 0) sets square₀ alike₀ next₀ active₀ rows₀ square₀ alike₀ next₀ active₀ rows₀
-  parts_begin = goes_nowhere (done_below state all 0)
-      (λ p q b lp t. clash (and_left (ltb (state p q / 64) 0) (all p q b) t) (le-ltb (state p q / 64) 0 zero-le))
-
-  pub parts_more : ((v p q b : ℕ) → is_part v (state p q) ≡ true → all p q b ≡ true → each v p q b ≡ true) → (v : ℕ)
-      → {square : List ℕ} {alike next active : List StateSet} {square' : List ℕ} {alike' next' active' : List StateSet} {rows rows' : ℕ → Bool}
-      → GoesAt g r x front (done_below state all v) sets square₀ alike₀ next₀ active₀ rows₀ square alike next active rows
-      → GoesAt g r x front (each v) sets square alike next active rows square' alike' next' active' rows'
-      → GoesAt g r x front (done_below state all (v + 1)) sets square₀ alike₀ next₀ active₀ rows₀ square' alike' next' active' rows'
-  parts_more in_each v before step = goes_less (done_below state all (v + 1)) (goes_then before step) (λ p q b lp lq lb t.
-      let z = state p q / 64 in
-      let l = ltb-true z (v + 1) (and_left (ltb z (v + 1)) (all p q b) t) in
-      let h = and_right (ltb z (v + 1)) (all p q b) t in
-      ⊎_elim
-      (λ (k : z < v). or_left (done_below state all v p q b) (each v p q b) (and_both (ltb z v) (all p q b) (lt-ltb z v k) h))
-      (λ k. or_right (done_below state all v p q b) (each v p q b) (in_each v p q b (eq-eqb z v (omega (arith, k, l))) h))
-      (lt_or_le z v))
-
-  pub parts_end : (v : ℕ) → ((p q : ℕ) → p < g.states → q < g.states → state p q / 64 < v) → {square : List ℕ} {alike next active : List StateSet}
-      {rows : ℕ → Bool}
-      → GoesAt g r x front (done_below state all v) sets square₀ alike₀ next₀ active₀ rows₀ square alike next active rows
+    (each : ℕ → ℕ → ℕ → ℕ → Bool) (all : ℕ → ℕ → ℕ → Bool) (state : ℕ → ℕ → ℕ)
+    (state_in : (p q : ℕ) → p < g.states → q < g.states → state p q < g.states)
+    (in_each : (v p q b : ℕ) → is_part v (state p q) ≡ true → all p q b ≡ true → each v p q b ≡ true) where
+  pub one_part : {square : List ℕ} {alike next active : List StateSet} {rows : ℕ → Bool} → g.states ≤ 64
+      → GoesAt g r x front (each 0) sets square₀ alike₀ next₀ active₀ rows₀ square alike next active rows
       → GoesAt g r x front all sets square₀ alike₀ next₀ active₀ rows₀ square alike next active rows
-  parts_end v past before = goes_less all before
-      (λ p q b lp lq lb t. and_both (ltb (state p q / 64) v) (all p q b) (lt-ltb (state p q / 64) v (past p q lp lq)) t)
+  one_part few step = goes_less all step (λ p q b lp lq lb t. in_each 0 p q b (in_part_lem g.states (state p q) (state_in p q lp lq) few) t)
+
+  pub two_parts : {square : List ℕ} {alike next active : List StateSet} {square' : List ℕ} {alike' next' active' : List StateSet}
+      {rows rows' : ℕ → Bool} → g.states ≤ state_limit
+      → GoesAt g r x front (each 0) sets square₀ alike₀ next₀ active₀ rows₀ square alike next active rows
+      → GoesAt g r x front (each 1) sets square alike next active rows square' alike' next' active' rows'
+      → GoesAt g r x front all sets square₀ alike₀ next₀ active₀ rows₀ square' alike' next' active' rows'
+  two_parts few low high = goes_less all (goes_then low high) (λ p q b lp lq lb t. ⊎_elim
+      (λ e. or_left (each 0 p q b) (each 1 p q b) (in_each 0 p q b e t))
+      (λ e. or_right (each 0 p q b) (each 1 p q b) (in_each 1 p q b e t))
+      (in_parts g.states (state p q) (state_in p q lp lq) few))
 
 -- the columns of a part, for rows of part v; and the rows of a part
 pub in_columns : (g : Automaton) (x k v w p q b : ℕ) → is_part w q ≡ true → part_done g x (is_part v) k p q b ≡ true

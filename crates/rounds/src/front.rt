@@ -8,7 +8,7 @@ ghost use Rattle.square.specs.Square.{never};
 ghost use Rattle.rows.specs.Sets.{Within};
 
 use rows::{Fresh, Predecessors, Search};
-use state_set::{PARTS, StateSet, WORD};
+use state_set::{StateSet, WORD};
 
 // The states at `distance` from the state of a row.
 #[derive(Clone, Copy)]
@@ -27,6 +27,7 @@ impl Front<'_, '_> {
 
     // For each active row of part v from which a leads to the row's state: enters what the front adds in the columns of
     // part w.
+    #[inline(always)]
     fn spread_symbol(&self, search: &mut Search, next: &mut Fresh, a: usize, v: usize, w: usize)
         requires { (a < self.now.predecessors.graph.symbols)
             × (v < 2)
@@ -43,6 +44,7 @@ impl Front<'_, '_> {
     }
 
     // The same for each symbol: the rows of part v, in the columns of part w.
+    #[inline(always)]
     fn spread_block(&self, search: &mut Search, next: &mut Fresh, v: usize, w: usize)
         requires { (v < 2)
             × (w < 2) }
@@ -54,25 +56,16 @@ impl Front<'_, '_> {
         }
     }
 
-    // How many parts there are: two where there are more states than a word has.
-    fn parts(&self) -> usize
-        ensures { (result ≤ 2)
-            × ((q : ℕ) → q < self.now.predecessors.graph.states → q / 64 < result) }
-    {
-        if self.predecessors.graph.states > WORD {
-            PARTS
-        } else {
-            1
-        }
-    }
-
-    // The same for the columns of all parts.
+    // The same for the columns of all parts. Here and below a call for each part, and not a loop over them: so the
+    // compiler knows the part, and looks at one word of each set.
+    #[inline(always)]
     fn spread_columns(&self, search: &mut Search, next: &mut Fresh, v: usize)
         requires { v < 2 }
         ensures { Adds self.now (part_of self.now v) search.old next.old search.new next.new }
     {
-        for w in 0..self.parts() {
-            self.spread_block(search, next, v, w);
+        self.spread_block(search, next, v, 0);
+        if self.predecessors.graph.states > WORD {
+            self.spread_block(search, next, v, 1);
         }
     }
 
@@ -80,8 +73,9 @@ impl Front<'_, '_> {
     pub fn spread(&self, search: &mut Search, next: &mut Fresh)
         ensures { Adds self.now (all_of self.now) search.old next.old search.new next.new }
     {
-        for v in 0..self.parts() {
-            self.spread_columns(search, next, v);
+        self.spread_columns(search, next, 0);
+        if self.predecessors.graph.states > WORD {
+            self.spread_columns(search, next, 1);
         }
     }
 }

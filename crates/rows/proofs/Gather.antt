@@ -1,25 +1,26 @@
 -- Sets gathered state by state: predecessors, and what leads into a set; entries of a row made one by one.
 use mathlib.Core.Path.{◌≡◌, refl, sym, ◌∙◌}
-use mathlib.Core.Bool.{Bool, true, false, cond, not, ◌&&◌, ◌||◌}
+use mathlib.Core.Bool.{Bool, true, false, cond, not, ◌&&◌, ◌||◌, or-false}
 use mathlib.Core.List.{List, ◌++◌}
-use Prim.Native.Nat.{ℕ, ◌+◌, ◌*◌, ◌≤◌, ◌<◌}
+use mathlib.Core.Logic.{⊎_elim}
+use Prim.Native.Nat.{ℕ, ◌+◌, ◌*◌, ◌/◌, ◌≤◌, ◌<◌}
 use native.Mathlib.Omega.{arith}
 use lib.Dec.{eqb, ltb}
 use lib.ListN.{length, set, replicate, length-set, length-append, length-replicate, get_or-append}
 use lib.Seq.{get_or-set_same, get_or-set_other}
-use borrow.Author.Tests.{eq-eqb, eqb-true, eqb-false}
-use Rattle.theory.specs.Automaton.{Automaton}
+use borrow.Author.Tests.{eq-eqb, ne_eqb, eqb-true, eqb-false, lt-ltb, le-ltb}
+use Rattle.theory.specs.Automaton.{Automaton, Closed}
 use Rattle.theory.specs.Monitor.{state_limit, symbol_limit}
 use Rattle.theory.specs.Below.{any}
-use Rattle.theory.proofs.Below.{clash, both_ways, any_at, any_find}
+use Rattle.theory.proofs.Below.{clash, both_ways, any_at, any_find, lt_or_le, and_right}
 use Rattle.state_set.specs.declared.StateSet.{StateSet}
-use Rattle.state_set.specs.Member.{member, no_states, set_at}
+use Rattle.state_set.specs.Member.{is_part, member, no_states, set_at}
 use Rattle.state_set.specs.Placing.{Placed}
 use Rattle.state_set.proofs.Sets.{set_all}
 use Rattle.square.specs.Square.{place, HasRows, entry}
 use Rattle.rows.specs.declared.search.Fresh.{Fresh}
 use Rattle.rows.specs.Searching.{Bare}
-use Rattle.rows.specs.Sets.{Empty, Preceding, leading, Into, Entered}
+use Rattle.rows.specs.Sets.{Empty, Preceding, leading, Into, Within, Entered}
 
 -- ---- predecessors
 
@@ -109,6 +110,45 @@ module _ {g : Automaton} {a : ℕ} {part whole into left : ℕ → Bool} (G : Ga
       last false true true = refl
       last false true false = refl
       last false false l = refl
+
+-- the states of a set that are of a part are below the same number
+pub part_within : {n : ℕ} (part set word : ℕ → Bool) → ((q : ℕ) → word q ≡ (part q && set q)) → Within n set → Within n word
+part_within part set word is W = record { at = λ q t. W.at q (and_right (part q) (set q) (sym (is q) ∙ t)) }
+
+-- two words, one after the other
+pub into_both : {g : Automaton} {a : ℕ} {part set low high some more into : ℕ → Bool} → Closed g → a < g.symbols → g.states ≤ state_limit
+    → ((q : ℕ) → low q ≡ (is_part 0 q && set q)) → ((q : ℕ) → high q ≡ (is_part 1 q && set q)) → ((q : ℕ) → into q ≡ (some q || more q))
+    → Into g a part low some → Into g a part high more → Into g a part set into
+into_both {g} {a} {part} {set} closed la few L H is A B = record {
+  at = λ q.
+      is q ∙ rw (A.at q, B.at q, L (g.next q a), H (g.next q a))
+      (⊎_elim
+      (λ (lq : q < g.states). rw (lt-ltb q g.states lq) (either q (closed.next_in q a lq la)))
+      (λ out. rw (le-ltb q g.states out) (none (part q)))
+      (lt_or_le q g.states));
+}
+  where
+    none : (c : Bool) → ((c && false) || (c && false)) ≡ (c && false)
+    none true = refl
+    none false = refl
+
+    one : (c b : Bool) → ((c && b) || (c && false)) ≡ (c && b)
+    one true b = or-false b
+    one false b = refl
+
+    other : (c b : Bool) → ((c && false) || (c && b)) ≡ (c && b)
+    other true b = refl
+    other false b = refl
+
+    either : (q : ℕ) → g.next q a < g.states
+        → ((part q && (is_part 0 (g.next q a) && set (g.next q a))) || (part q && (is_part 1 (g.next q a) && set (g.next q a)))) ≡
+        (part q && set (g.next q a))
+    either q l =
+        let z = g.next q a in
+        ⊎_elim
+        (λ (b : z < 64). rw (eq-eqb (z / 64) 0 (omega (arith, b)), ne_eqb (z / 64) 1 (λ e. omega (arith, b, e))) (one (part q) (set z)))
+        (λ (b : 64 ≤ z). rw (ne_eqb (z / 64) 0 (λ e. omega (arith, b, e)), eq-eqb (z / 64) 1 (omega (arith, b, l, few))) (other (part q) (set z)))
+        (lt_or_le z 64)
 
 -- ---- the entries of a row
 

@@ -55,17 +55,29 @@ impl<'g, 's> Predecessors<'g, 's> {
         self.of(x, a).part(w)
     }
 
-    // The states of part w from which a leads into a set.
+    // The states of part w from which a leads into those of a word of part u.
+    fn leading_from(&self, a: usize, word: u64, u: usize, w: usize) -> u64
+        requires { (a < self.now.graph.symbols)
+            × Within self.now.graph.states (in_part u word)
+            × (u < 2)
+            × (w < 2) }
+        ensures { Into (automaton self.now.graph) a (is_part w) (in_part u word) (in_part w result) }
+    {
+        let mut into = 0;
+        for y in state_set::part_states(word, u) {
+            into = into | self.part_of(y, a, w);
+        }
+        into
+    }
+
+    // The states of part w from which a leads into a set. Word by word: so a turn looks at one word of the set.
     pub fn leading_into(&self, a: usize, set: StateSet, w: usize) -> u64
         requires { (a < self.now.graph.symbols)
             × Within self.now.graph.states (member set)
             × (w < 2) }
         ensures { Into (automaton self.now.graph) a (is_part w) (member set) (in_part w result) }
     {
-        let mut into = 0;
-        for y in set.states() {
-            into = into | self.part_of(y, a, w);
-        }
-        into
+        let low = self.leading_from(a, set.part(0), 0, w);
+        low | self.leading_from(a, set.part(1), 1, w)
     }
 }
