@@ -1,5 +1,5 @@
 -- The kinds of fault as the code names them.
-use Rattle.std.specs.Prelude.{ℕ, ◌%◌, ◌^◌}
+use Rattle.std.specs.Prelude.{ℕ, zero, suc, ◌%◌, ◌^◌}
 use Rattle.theory.specs.Faults.{kinds}
 use Rattle.faults.specs.declared.Kind.{Kind}
 use Rattle.faults.specs.declared.Kind.TheVariants.{Loss, Corruption, Repeat, Swap}
@@ -10,6 +10,13 @@ rank_of Loss = 0
 rank_of Corruption = 1
 rank_of Repeat = 2
 rank_of Swap = 3
+
+-- the kind of a rank; a rank that is no kind's counts as the last
+abbrev pub kind_of : ℕ → Kind
+kind_of zero = Loss
+kind_of (suc zero) = Corruption
+kind_of (suc (suc zero)) = Repeat
+kind_of (suc (suc (suc c))) = Swap
 
 -- "Each fault has its fixed bit: loss 1, corruption 2, repeat 4, swap 8"
 abbrev pub bit_of : Kind → ℕ

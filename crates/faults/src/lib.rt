@@ -10,7 +10,7 @@ ghost use Rattle.theory.specs.Automaton.{run};
 ghost use Rattle.theory.specs.Monitor.{symbol_limit};
 ghost use Rattle.theory.specs.Faults.{kinds, step_of, seconds, holds, steps};
 ghost use Rattle.monitor.specs.Graph.{automaton};
-ghost use Rattle.faults.specs.Kinds.{rank_of, bit_of, set_of};
+ghost use Rattle.faults.specs.Kinds.{rank_of, kind_of, bit_of, set_of};
 ghost use Rattle.faults.specs.Steps.{trace_of, step_for, Inside, Ranged, costing, Attained, Cheapest};
 ghost use Rattle.faults.specs.Looks.{OfSet, Suited};
 
@@ -44,6 +44,18 @@ impl Kind {
         ensures { result ≡ rank_of self }
     {
         self as usize
+    }
+}
+
+// The kind of a rank: the kinds in the written order, and the last for a rank that is no kind's.
+pub fn kind_at(rank: usize) -> Kind
+    ensures { result ≡ kind_of rank }
+{
+    match rank {
+        0 => Kind::Loss,
+        1 => Kind::Corruption,
+        2 => Kind::Repeat,
+        _ => Kind::Swap,
     }
 }
 
