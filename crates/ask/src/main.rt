@@ -127,7 +127,7 @@ fn told(mut program: Program, answered: Result<(), Unanswered>) -> io::Result<()
 }
 
 fn main(rt: HostRuntime) {
-    let program = Program::new("ask", &rt);
+    let program = Program::new("ask: ", &rt);
     let mut space = [0u8; arguments::ROOM];
     let mut call = Call {
         rt: &rt,

@@ -1,15 +1,21 @@
 // What the program says of itself.
 use output::Program;
 
+// The line that tells a wrong form, by as many writes as parts.
+const USAGE: [&str; 6] = [
+    "usage: ask judge | classes AREA | step READING STATE MESSAGE | trace READING MESSAGE..",
+    " | trace READING @FILE | fault SET READING AREA",
+    " | trust SET READING VERDICT AREA | proof SET READING BLOCK..",
+    " | proof SET READING @FILE | blocks READING | rule RULE FORM.. | body RULE",
+    " | collection | write AREA RULE.. / LENGTH.. | why NUMBER",
+    "; ask --help says more\n",
+];
+
 // A wrong form: one line on standard error.
 pub fn usage(program: Program) {
-    program.usage(
-        "ask judge | classes AREA | step READING STATE MESSAGE | trace READING MESSAGE.. \
-        | trace READING @FILE | fault SET READING AREA \
-        | trust SET READING VERDICT AREA | proof SET READING BLOCK.. \
-        | proof SET READING @FILE | blocks READING | rule RULE FORM.. | body RULE \
-        | collection | write AREA RULE.. / LENGTH.. | why NUMBER; ask --help says more",
-    );
+    for part in USAGE {
+        program.usage(part);
+    }
 }
 
 pub const HELP: &[u8] = b"\

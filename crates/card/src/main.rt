@@ -58,7 +58,7 @@ impl<R: Env> Call<'_, '_, R> {
 }
 
 fn main(rt: HostRuntime) {
-    let mut program = Program::new("card", &rt);
+    let mut program = Program::new("card: ", &rt);
     let mut space = [0u8; arguments::ROOM];
     if arguments::is_word(&rt, 1, b"--help", &mut space) {
         program.tell(program.output.write_all(words::HELP));

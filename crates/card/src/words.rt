@@ -5,7 +5,9 @@ use std::fmt;
 use std::fmt::{Display, Formatter};
 
 pub fn usage(program: Program) {
-    program.usage("card [RULE..], with a collection on standard input; card --help says more");
+    program.usage(
+        "usage: card [RULE..], with a collection on standard input; card --help says more\n",
+    );
 }
 
 pub const HELP: &[u8] = b"\

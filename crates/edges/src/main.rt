@@ -263,7 +263,7 @@ fn trace_refusals(program: Program) {
 }
 
 fn main(rt: HostRuntime) {
-    let program = Program::new("test", &rt);
+    let program = Program::new("test: ", &rt);
     sizes(program);
     limits(program);
     rows(program);

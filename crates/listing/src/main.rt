@@ -55,13 +55,13 @@ fn answer(program: Program, space: &mut [u8]) -> io::Result<()> {
 }
 
 fn main(rt: HostRuntime) {
-    let mut program = Program::new("listing", &rt);
+    let mut program = Program::new("listing: ", &rt);
     let mut space = [0u8; input::SIZE];
     match read_arguments(&rt, &mut space) {
         Some(Asked::Listing) => program.tell(answer(program, &mut space)),
         Some(Asked::Help) => program.tell(program.output.write_all(HELP)),
         None => program.usage(
-            "listing, with a collection on standard input; listing --help says more",
+            "usage: listing, with a collection on standard input; listing --help says more\n",
         ),
     }
 }

@@ -6,7 +6,8 @@ ghost use Rattle.std.specs.Prelude.{◌≡◌};
 use std::io;
 use std::io::{Cursor, Stderr, Stdin, Stdout, Write};
 
-// A program: its name, which begins the lines that it writes to standard error, and its standard streams.
+// A program: its name with a colon behind it, which begins the lines that it writes to standard error, and its standard
+// streams.
 #[derive(Clone, Copy)]
 pub struct Program {
     pub name: &'static str,
@@ -22,14 +23,6 @@ fn words_end(text: &[u8]) -> usize {
         .unwrap_or(text.len())
 }
 
-fn write_of(mut error: Stderr, program: &str, name: &[u8], what: &[u8]) -> io::Result<()> {
-    write!(error, "{program}: ")?;
-    error.write_all(name)?;
-    error.write_all(b": ")?;
-    error.write_all(what)?;
-    error.write_all(b"\n")
-}
-
 impl Program {
     pub fn new(name: &'static str, rt: &HostRuntime) -> Program
         ensures { result.name.now ≡ name.now }
@@ -42,20 +35,32 @@ impl Program {
         }
     }
 
-    // A line on standard error: the program, and what is wrong. Where that cannot be written, nobody is left to tell.
-    pub fn complain(mut self, what: &str) {
-        let name = self.name;
-        let _ = writeln!(self.error, "{name}: {what}");
+    // Words for standard error, by one write. Where that fails, nobody is left to tell, and the words behind are tried
+    // all the same.
+    pub fn say(self, words: &[u8]) {
+        let mut error = self.error;
+        let _ = error.write_all(words);
     }
 
-    // The line that tells a wrong form.
-    pub fn usage(mut self, forms: &str) {
-        let _ = writeln!(self.error, "usage: {forms}");
+    // A line on standard error: the program, and what is wrong.
+    pub fn complain(self, what: &str) {
+        self.say(self.name.as_bytes());
+        self.say(what.as_bytes());
+        self.say(b"\n");
+    }
+
+    // The line that tells a wrong form, whole.
+    pub fn usage(self, line: &str) {
+        self.say(line.as_bytes());
     }
 
     // The line that tells what is wrong with a thing that has a name.
     pub fn complain_of(self, name: &[u8], what: &[u8]) {
-        let _ = write_of(self.error, self.name, name, what);
+        self.say(self.name.as_bytes());
+        self.say(name);
+        self.say(b": ");
+        self.say(what);
+        self.say(b"\n");
     }
 
     // The same in the system's words, without their number.

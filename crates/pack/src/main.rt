@@ -101,7 +101,7 @@ impl<R: Env + Files> Packer<'_, '_, R> {
 }
 
 fn main(rt: HostRuntime) {
-    let mut program = Program::new("pack", &rt);
+    let mut program = Program::new("pack: ", &rt);
     let mut space = [0u8; arguments::ROOM];
     if arguments::is_word(&rt, 1, b"--help", &mut space) {
         program.tell(program.output.write_all(words::HELP));

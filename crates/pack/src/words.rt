@@ -6,7 +6,7 @@ use std::io::Write;
 
 // A wrong form: one line on standard error.
 pub fn usage(program: Program) {
-    program.usage("pack RULE FILE [RULE FILE].. > COLLECTION; pack --help says more");
+    program.usage("usage: pack RULE FILE [RULE FILE].. > COLLECTION; pack --help says more\n");
 }
 
 pub const HELP: &[u8] = b"\
@@ -38,7 +38,8 @@ fn has_entry(reason: Reason) -> bool {
 fn write_refusal(program: Program, refusal: Refusal, name: &[u8]) -> io::Result<()> {
     let mut error = program.error;
     let reason = refusal.reason;
-    write!(error, "{}: {refusal}: ", program.name)?;
+    program.say(program.name.as_bytes());
+    write!(error, "{refusal}: ")?;
     if has_entry(reason) {
         error.write_all(name)?;
         error.write_all(b": ")?;

@@ -215,7 +215,7 @@ fn answers(mut program: Program, lent: &mut Lent, input: &[u8]) {
 }
 
 fn main(rt: HostRuntime) {
-    let program = Program::new("test", &rt);
+    let program = Program::new("test: ", &rt);
     let mut input = [0u8; 65536];
     let length = io::read_full(0, &mut input);
     let mut lent = Lent {

@@ -176,7 +176,7 @@ fn refusals(program: Program) {
 }
 
 fn main(rt: HostRuntime) {
-    let program = Program::new("test", &rt);
+    let program = Program::new("test: ", &rt);
     tables(program);
     written_order(program);
     three_ones(program);
