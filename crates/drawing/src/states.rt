@@ -21,7 +21,9 @@ const CLASSES: [Class; 6] = [
 ];
 
 // The columns that the states from the first to the last take at most.
-fn run_width(first: usize, last: usize) -> usize {
+fn run_width(first: usize, last: usize) -> usize
+    ensures { result < 100 }
+{
     if first < last { 7 } else { 3 }
 }
 
