@@ -251,8 +251,10 @@ impl Sketch<'_> {
     }
 }
 
-// The witness whose sent trace is given. Both tests hold of every witness.
-pub fn draw(out: &mut impl Write, sent: &[u8], witness: Witness, by: Reading) -> io::Result<()> {
+// The witness whose sent trace is given, by marks (domain 3) or, for any other number, by classes. Both tests hold of
+// every witness.
+pub fn draw(out: &mut impl Write, sent: &[u8], witness: Witness, domain: usize) -> io::Result<()> {
+    let by = Reading::try_from(domain).unwrap_or(Reading::Classes);
     let before = witness.before;
     if before < sent.len() {
         let fault = fault_step(sent, witness);

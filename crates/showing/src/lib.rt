@@ -25,7 +25,7 @@ fn finding(
         Ok(None) => writeln!(out, "immune"),
         Ok(Some(witness)) => {
             let sent = basics::part(area, 0, witness.distance);
-            drawing::traces::draw(out, sent, witness, by)
+            drawing::traces::draw(out, sent, witness, by as usize)
         }
     }
 }
