@@ -18,14 +18,15 @@ use totals::Costs;
 
 // What all fault sets of a table and a test share: what each state reads, the square of the distances by these, and the
 // layers from the start on.
-// What holds of it is a `requires`: it gives traces, and a ghost field has to be a fact with one proof.
+// What holds of it is a `requires`: it gives traces, and a ghost field has to be a fact with one proof. `over` makes the
+// square of a test; any other for which that holds does too.
 #[derive(Drop)]
 pub struct Search<'a> {
-    table: &'a Table<'a>,
-    outputs: &'a [u8],
-    test: Test,
-    square: &'a [u16],
-    layers: Layers,
+    pub table: &'a Table<'a>,
+    pub outputs: &'a [u8],
+    pub test: Test,
+    pub square: &'a [u16],
+    pub layers: Layers,
 }
 
 // A harmful series as the search makes it: how many symbols stand before the fault, the fault step, and the states that
