@@ -1,5 +1,5 @@
 -- What questions 14 and 15 answered yes leave of the block numbers.
-use mathlib.Core.Path.{◌≡◌}
+use mathlib.Core.Path.{◌≡◌, sym, subst}
 use mathlib.Core.List.{List, [], ◌∷◌}
 use Prim.Native.Nat.{ℕ, ◌≤◌}
 use native.Mathlib.Omega.{arith}
@@ -20,3 +20,7 @@ numbered_of {n} {c} most e =
     let z = asks_yes (question15 n c) [] no_values y.1 in
     let size = eqb-true (length c) n y.0 in
     record { most = most; size = size; below = λ q l. all_below n c (eqb-true (first_not_below n c) (length c) z.0) q (omega (arith, size, l)) }
+
+-- the numbers of a table are as many as they are
+pub numbered_whole : {limit n : ℕ} {c : List ℕ} → Numbered limit n c → Numbered limit (length c) c
+numbered_whole {limit} {n} {c} h = subst (λ (l : ℕ). Numbered limit l c) (sym h.size) h

@@ -16,6 +16,7 @@ ghost use Rattle.readings.specs.Domains.{domain_of};
 ghost use Rattle.certificate.specs.Questions.{question16, question17, question18};
 ghost use Rattle.certificate.specs.Agreeing.{Numbered, lowest_in, Lowest, differs_from_lowest};
 
+use crate::entered::{lowest_of, lowest_states};
 use basics::{Reason, Refusal};
 use faults::{Fault, FaultSet, Kind};
 use monitor::Table;
@@ -33,16 +34,13 @@ pub struct Blocks<'a> {
 }
 
 impl<'a> Blocks<'a> {
-    // The blocks with these numbers. Their lowest states are entered from the highest state down.
+    // The blocks with these numbers.
     pub fn new(table: &'a Table<'a>, numbers: &'a [u8]) -> Self
         requires { Numbered state_limit table.now.graph.states numbers.now }
         ensures table { result.table.now ≡ table.now }
         ensures numbers { result.numbers.now ≡ numbers.now }
     {
-        let mut lowest = [0u8; STATE_LIMIT];
-        for q in (0..numbers.len()).rev() {
-            lowest[numbers[q] as usize] = q as u8;
-        }
+        let lowest = lowest_states(numbers);
         Blocks {
             table,
             numbers,
@@ -56,8 +54,7 @@ impl<'a> Blocks<'a> {
         ensures value { result ≡ lowest_in self.now.numbers.now q }
         ensures inside { result < self.now.table.now.graph.states }
     {
-        let block = self.numbers[q] as usize;
-        self.lowest[block] as usize
+        lowest_of(&self.lowest, self.numbers, q)
     }
 
     // The first state that does not agree with the lowest state of its block, or the number of states.

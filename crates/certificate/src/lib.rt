@@ -16,8 +16,10 @@ use monitor::Table;
 use readings::Reading;
 
 mod blocks;
+mod entered;
 
 pub use blocks::Blocks;
+pub use entered::{lowest_of, lowest_states};
 
 // Questions 14 and 15.
 fn judge_numbers(numbers: &[u8], n: usize) -> Result<(), Refusal>

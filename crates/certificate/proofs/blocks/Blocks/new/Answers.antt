@@ -1,17 +1,6 @@
--- `Blocks::new` meets its contract: the states from `q` on are entered.
-use mathlib.Core.Path.{◌≡◌, subst}
-use Prim.Native.Nat.{ℕ, suc, ◌-◌}
-use native.Mathlib.Omega.{arith}
-use Rattle.theory.specs.Monitor.{state_limit}
-use Rattle.certificate.proofs.Lowest.{Entered, enter_goes_on, enter_ends}
+-- `Blocks::new` meets its contract: there is a number for each state of the table.
+use Rattle.certificate.proofs.Agreeing.{numbered_whole}
 use Rattle.certificate.proofs.blocks.Blocks.new.Goals as goal
 
-pub loop-q-preserved : goal.loop-q-preserved
-loop-q-preserved c =
-    let at = c.loop-q in
-    let one : at.q ≡ suc (at.q - 1) = omega (arith, c.loop-q-test.true) in
-    enter_goes_on (at.q - 1) c.requires (omega (arith, c.loop-q-test.true, at.invariant.upto))
-    (subst (λ (q : ℕ). Entered state_limit c.args.numbers.now q at.lowest) one at.invariant)
-
-pub invariant_of-result : goal.invariant_of-result
-invariant_of-result c = record { numbered = c.requires; entered = enter_ends (omega arith) c.loop-q.invariant }
+pub lowest_states-lowest-requires : goal.lowest_states-lowest-requires
+lowest_states-lowest-requires c = numbered_whole c.requires
