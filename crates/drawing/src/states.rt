@@ -79,9 +79,10 @@ pub fn class_states(
 ) -> io::Result<()>
     requires { first < length classes.now }
 {
-    write!(out, "state")?;
     if next_state(classes, class, first + 1) < classes.len() {
-        write!(out, "s")?;
+        write!(out, "states")?;
+    } else {
+        write!(out, "state")?;
     }
     class_runs(out, classes, class, columns)
 }

@@ -54,8 +54,7 @@ fn believe_line(out: &mut impl Write, body: &[u8], set: usize, area: &mut [u8]) 
 fn fault(out: &mut impl Write, body: &[u8], kind: Kind, by: Reading) -> io::Result<()> {
     let mut area = [0u8; WITNESS_ROOM];
     let set = FaultSet::empty().with(kind).number();
-    write!(out, "  ")?;
-    output::padded(out, words::fault_name(kind), 16)?;
+    output::padded(out, words::fault_name(kind), 18)?;
     finding(out, body, set, by, &mut area)?;
     if by == Reading::Marks {
         believe_line(out, body, set, &mut area)?;
@@ -74,14 +73,14 @@ fn faults_by(out: &mut impl Write, body: &[u8], by: Reading) -> io::Result<()> {
 // The states, those reached, and the messages.
 fn sizes(out: &mut impl Write, body: &[u8], reached: usize) -> io::Result<()> {
     let states = basics::byte_at(body, 0);
-    write!(out, "  {}, ", Counted(states, "state"))?;
+    write!(out, "  {}, ", Counted(states, " state"))?;
     if reached == states {
         write!(out, "all")?;
     } else {
         write!(out, "{reached}")?;
     }
     write!(out, " reached from start {}, ", basics::byte_at(body, 2))?;
-    writeln!(out, "{}", Counted(basics::byte_at(body, 1), "message"))
+    writeln!(out, "{}", Counted(basics::byte_at(body, 1), " message"))
 }
 
 // What is shown of a table that is classified so.
@@ -92,7 +91,7 @@ fn table(
     classes: &[u8],
 ) -> io::Result<()> {
     let monitorability = classified.monitorability;
-    writeln!(out, "{monitorability} ({})", words::meaning(monitorability))?;
+    writeln!(out, "{monitorability}{}", words::meaning(monitorability))?;
     sizes(out, body, classified.reached)?;
     drawing::states::class_lines(out, classes)?;
     drawing::settled::line(out, monitor::drawn_marks(body), classes)?;

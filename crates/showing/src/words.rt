@@ -14,34 +14,31 @@ impl Display for Refused {
     fn fmt<W: fmt::Write>(&self, f: &mut Formatter<W>) -> fmt::Result {
         let reason = self.0.reason;
         let counted = match reason {
-            Reason::BodyTooShort | Reason::BodyLength => "length",
-            _ => "byte",
+            Reason::BodyTooShort | Reason::BodyLength => " at length ",
+            _ => " at byte ",
         };
         let number = reason.number();
-        write!(
-            f,
-            "refused {number} at {counted} {} ({reason})",
-            self.0.place
-        )
+        write!(f, "refused {number}{counted}{} ({reason})", self.0.place)
     }
 }
 
-// What a monitorability means.
+// What a monitorability means, in brackets behind its word.
 pub fn meaning(monitorability: Monitorability) -> &'static str {
     match monitorability {
-        Monitorability::Positive => "true can be found, false cannot",
-        Monitorability::Negative => "false can be found, true cannot",
-        Monitorability::Both => "true and false can be found",
-        Monitorability::Neither => "an ugly state can be reached: no verdict from there on",
+        Monitorability::Positive => " (true can be found, false cannot)",
+        Monitorability::Negative => " (false can be found, true cannot)",
+        Monitorability::Both => " (true and false can be found)",
+        Monitorability::Neither => " (an ugly state can be reached: no verdict from there on)",
     }
 }
 
+// The name of a fault, as it stands in its line.
 pub fn fault_name(kind: Kind) -> &'static str {
     match kind {
-        Kind::Loss => "loss",
-        Kind::Corruption => "corruption",
-        Kind::Repeat => "repeat",
-        Kind::Swap => "swap",
+        Kind::Loss => "  loss",
+        Kind::Corruption => "  corruption",
+        Kind::Repeat => "  repeat",
+        Kind::Swap => "  swap",
     }
 }
 
@@ -59,13 +56,13 @@ impl Display for Belief {
     }
 }
 
-// A number and what it counts, in the singular or the plural.
+// A number and what it counts, with a space before it, in the singular or the plural.
 #[derive(Drop)]
 pub struct Counted(pub usize, pub &'static str);
 
 impl Display for Counted {
     fn fmt<W: fmt::Write>(&self, f: &mut Formatter<W>) -> fmt::Result {
         let plural = if self.0 == 1 { "" } else { "s" };
-        write!(f, "{} {}{plural}", self.0, self.1)
+        write!(f, "{}{}{plural}", self.0, self.1)
     }
 }
