@@ -18,8 +18,8 @@ use totals::Costs;
 
 // What all fault sets of a table and a test share: what each state reads, the square of the distances by these, and the
 // layers from the start on.
-// What holds of it is a `requires`: it gives traces, and a ghost field has to be a fact with one proof. `over` makes the
-// square of a test; any other for which that holds does too.
+// What holds of it is a `requires`: it gives traces, and a ghost field has to be a fact with one proof. `over` makes it
+// for a test; any other square for which that holds does too.
 #[derive(Drop)]
 pub struct Search<'a> {
     pub table: &'a Table<'a>,
