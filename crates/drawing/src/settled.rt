@@ -21,14 +21,18 @@ fn write_verdicts(drawn: &[u8], classes: &[u8], verdicts: &mut [u8]) {
     }
 }
 
-// The states of a verdict on the same line, if it has any.
-fn verdict_states(out: &mut impl Write, verdicts: &[u8], verdict: u8) -> io::Result<()> {
+// The states of a verdict behind these words, if it has any.
+fn verdict_states(
+    out: &mut impl Write,
+    words: &str,
+    verdicts: &[u8],
+    verdict: u8,
+) -> io::Result<()> {
     let first = states::next_state(verdicts, verdict, 0);
     if first >= verdicts.len() {
         return Ok(());
     }
-    let word = if verdict == 1 { "true" } else { "false" };
-    write!(out, "settled {word}: ")?;
+    out.write_all(words.as_bytes())?;
     states::class_states(out, verdicts, verdict, first, usize::MAX)
 }
 
@@ -42,15 +46,15 @@ pub fn line(out: &mut impl Write, drawn: &[u8], classes: &[u8]) -> io::Result<()
     write_verdicts(drawn, classes, &mut area);
     let verdicts = basics::part(&area, 0, classes.len());
     let has_true = has_state(verdicts, 1);
-    let has_false = has_state(verdicts, 2);
-    if !has_true && !has_false {
+    if !has_true && !has_state(verdicts, 2) {
         return Ok(());
     }
-    write!(out, "  ")?;
-    verdict_states(out, verdicts, 1)?;
-    if has_true && has_false {
-        write!(out, "; ")?;
-    }
-    verdict_states(out, verdicts, 2)?;
+    verdict_states(out, "  settled true: ", verdicts, 1)?;
+    let words = if has_true {
+        "; settled false: "
+    } else {
+        "  settled false: "
+    };
+    verdict_states(out, words, verdicts, 2)?;
     writeln!(out)
 }

@@ -102,7 +102,7 @@ impl Display for VerdictWord {
 // The left margin of a sent trace. In the first line the fault's name stands there already.
 fn sent_margin(out: &mut impl Write, from: usize) -> io::Result<()> {
     if from > 0 {
-        write!(out, "                  ")?;
+        return write!(out, "                  sent     ");
     }
     write!(out, "sent     ")
 }

@@ -10,7 +10,7 @@ use std::io;
 use std::io::Write;
 use theory::STATE_LIMIT;
 use witness::WITNESS_ROOM;
-use words::{Belief, Counted, Refused};
+use words::{Belief, Counted};
 
 // The finding under one fault and one reading. The area is lent for a witness.
 fn finding(
@@ -21,7 +21,7 @@ fn finding(
     area: &mut [u8],
 ) -> io::Result<()> {
     match immunity::examine(body, set, by as usize, area) {
-        Err(refusal) => writeln!(out, "{}", Refused(refusal)),
+        Err(refusal) => words::refused(out, refusal),
         Ok(None) => writeln!(out, "immune"),
         Ok(Some(witness)) => {
             let sent = basics::part(area, 0, witness.distance);
@@ -110,6 +110,6 @@ pub fn card(out: &mut impl Write, rule: usize, body: &[u8]) -> io::Result<()> {
             let classes = basics::part(&area, 0, basics::byte_at(body, 0));
             table(out, body, classified, classes)
         }
-        Err(refusal) => writeln!(out, "{}", Refused(refusal)),
+        Err(refusal) => words::refused(out, refusal),
     }
 }

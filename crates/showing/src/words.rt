@@ -2,24 +2,20 @@
 use basics::{Reason, Refusal};
 use classes::Monitorability;
 use faults::Kind;
-use std::fmt;
 use std::fmt::{Display, Formatter};
+use std::io::Write;
+use std::{fmt, io};
 use witness::Witness;
 
-// Why a body is refused, in words.
-#[derive(Drop)]
-pub struct Refused(pub Refusal);
-
-impl Display for Refused {
-    fn fmt<W: fmt::Write>(&self, f: &mut Formatter<W>) -> fmt::Result {
-        let reason = self.0.reason;
-        let counted = match reason {
-            Reason::BodyTooShort | Reason::BodyLength => " at length ",
-            _ => " at byte ",
-        };
-        let number = reason.number();
-        write!(f, "refused {number}{counted}{} ({reason})", self.0.place)
-    }
+// The line that says why a body is refused.
+pub fn refused(out: &mut impl Write, refusal: Refusal) -> io::Result<()> {
+    let Refusal { reason, place } = refusal;
+    let counted = match reason {
+        Reason::BodyTooShort | Reason::BodyLength => " at length ",
+        _ => " at byte ",
+    };
+    let number = reason.number();
+    writeln!(out, "refused {number}{counted}{place} ({reason})")
 }
 
 // What a monitorability means, in brackets behind its word.
