@@ -19,7 +19,7 @@ docs/FORMAT.md in the repository explains the words and the numbers.
 // Writes the listing of the input, or of its first bytes where it is longer than it may be. That the area holds every
 // listing is a theorem, so nothing is refused.
 fn list(mut program: Program, file: &[u8]) -> io::Result<()> {
-    let mut area = [0u8; listing_text::LISTING_ROOM];
+    let mut area = listing_text::blank();
     match listing_text::write(file, &mut area) {
         Ok(length) => program.output.write_all(basics::part(&area, 0, length)),
         Err(_) => {

@@ -86,6 +86,13 @@ fn push_listing(file: &[u8], text: &mut Listing)
     }
 }
 
+// An area that every listing fits, and no longer.
+pub fn blank() -> [u8; LISTING_ROOM]
+    ensures { length result ≡ listing_room }
+{
+    [0u8; LISTING_ROOM]
+}
+
 // Writes the listing of a collection file into the area.
 pub fn write(file: &[u8], area: &mut [u8]) -> Result<usize, Refusal>
     ensures figures { length_written result

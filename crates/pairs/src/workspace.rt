@@ -1,7 +1,7 @@
 // What the search works in.
 ghost use Rattle.std.specs.Prelude.{◌≡◌, length};
 ghost use Rattle.monitor.specs.Graph.{automaton};
-ghost use Rattle.square.specs.Square.{Squared, passing};
+ghost use Rattle.square.specs.Square.{square_size, Squared, passing};
 
 use monitor::Graph;
 use rows::PREDECESSORS;
@@ -19,7 +19,9 @@ pub struct Workspace {
 impl Workspace {
     // What it holds does not matter. All of it is zero, so that it is filled where it stands: a square of another
     // number would be made first and copied, and the stack would hold it twice.
-    pub fn new() -> Self {
+    pub fn new() -> Self
+        ensures { length result.square ≡ square_size }
+    {
         Workspace {
             square: [0; SQUARE_SIZE],
             predecessors: [StateSet::empty(); PREDECESSORS],
