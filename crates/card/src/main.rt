@@ -13,7 +13,6 @@ use page::Page;
 use std::env::Env;
 use std::io;
 use std::io::Write;
-use words::Refused;
 
 impl<R: Env> Call<'_, '_, R> {
     // The cards of the rules that are asked for, with an empty line between two. Here and below the collection is what
@@ -44,14 +43,14 @@ impl<R: Env> Call<'_, '_, R> {
                 self.cards(&mut page, length, count)?;
                 self.missing_lines(&mut page)
             }
-            Err(refusal) => writeln!(self.program.output, "{}", Refused(refusal)),
+            Err(refusal) => words::refused(&mut self.program.output, refusal),
         }
     }
 
     fn answer(&mut self) -> io::Result<()> {
         match input::read(self.program, self.space) {
             Ok(length) => self.report(length),
-            Err(Unread::Longer) => writeln!(self.program.output, "{}", Refused(TOO_LONG)),
+            Err(Unread::Longer) => words::refused(&mut self.program.output, TOO_LONG),
             Err(Unread::Failed) => Ok(()),
         }
     }

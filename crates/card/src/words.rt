@@ -1,8 +1,8 @@
 // What the program says of itself, and of a collection that is refused.
 use basics::{Reason, Refusal};
 use output::Program;
-use std::fmt;
-use std::fmt::{Display, Formatter};
+use std::io;
+use std::io::Write;
 
 pub fn usage(program: Program) {
     program.usage(
@@ -23,17 +23,12 @@ Example: card 20 < samples/sample.collection
 docs/FORMAT.md in the repository explains the words and the numbers.
 ";
 
-// Why a collection is refused, in words, with the place for the two questions that ask of each entry.
-#[derive(Drop)]
-pub struct Refused(pub Refusal);
-
-impl Display for Refused {
-    fn fmt<W: fmt::Write>(&self, f: &mut Formatter<W>) -> fmt::Result {
-        let reason = self.0.reason;
-        write!(f, "collection refused {}", reason.number())?;
-        if let Reason::RuleOrder | Reason::BodyPlace = reason {
-            write!(f, " at entry {}, counting from 0", self.0.place)?;
-        }
-        write!(f, " ({reason})")
+// The line that says why a collection is refused, with the place for the two questions that ask of each entry.
+pub fn refused(out: &mut impl Write, refusal: Refusal) -> io::Result<()> {
+    let Refusal { reason, place } = refusal;
+    write!(out, "collection refused {}", reason.number())?;
+    if let Reason::RuleOrder | Reason::BodyPlace = reason {
+        write!(out, " at entry {place}, counting from 0")?;
     }
+    writeln!(out, " ({reason})")
 }
