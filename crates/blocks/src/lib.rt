@@ -14,9 +14,10 @@ ghost use Rattle.blocks.specs.Made.{blocks_questions, blocks_figures, blocks_ans
 use basics::{Reason, Refusal};
 use certificate::Blocks;
 use monitor::Table;
-use pairs::Workspace;
 use readings::Reading;
-use theory::STATE_LIMIT;
+use rows::PREDECESSORS;
+use state_set::StateSet;
+use theory::{SQUARE_SIZE, STATE_LIMIT};
 
 // The blocks of a table, into the first places of the area: the search puts states that are never told apart into one,
 // and each block is named by its lowest state.
@@ -28,14 +29,11 @@ fn write_blocks(table: &Table, reading: Reading, area: &mut [u8])
     let n = table.graph.states;
     let mut outputs = [0u8; STATE_LIMIT];
     reading.write(table, &mut outputs);
-    let mut workspace = Workspace::new();
-    square::clear(&mut workspace.square, n);
-    let found = refining::enter(
-        &mut workspace.square,
-        &mut workspace.predecessors,
-        &table.graph,
-        &outputs[..n],
-    );
+    // Two arrays and no workspace: nobody reads the square here, so that the compiler need not fill it.
+    let mut predecessors = [StateSet::empty(); PREDECESSORS];
+    let mut square = [0u16; SQUARE_SIZE];
+    square::clear(&mut square, n);
+    let found = refining::enter(&mut square, &mut predecessors, &table.graph, &outputs[..n]);
     let blocks = Blocks::new(table, found.numbers_below(n));
     for q in 0..n {
         area[q] = blocks.lowest_of(q) as u8;
