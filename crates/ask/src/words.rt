@@ -14,7 +14,7 @@ const USAGE: [&str; 6] = [
 // A wrong form: one line on standard error.
 pub fn usage(program: Program) {
     for part in USAGE {
-        program.usage(part);
+        program.say(part.as_bytes());
     }
 }
 

@@ -20,8 +20,8 @@ use state_set::StateSet;
 use theory::{SQUARE_SIZE, STATE_LIMIT};
 
 // The blocks of a table, into the first places of the area: the search puts states that are never told apart into one,
-// and each block is named by its lowest state. Never a part of its caller, so that the two arrays are on the stack of no
-// other call.
+// and each block is named by its lowest state. Never a part of its caller, so that its two arrays are on the stack of
+// no other call.
 #[inline(never)]
 fn write_blocks(table: &Table, reading: Reading, area: &mut [u8])
     requires { table.now.graph.states ≤ length area.old }
